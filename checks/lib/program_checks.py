@@ -15,6 +15,8 @@ from reference import League, take
 from schema import faults_of
 
 HOME = Path(__file__).resolve().parents[2]
+sys.path.append(str(HOME / "bench" / "shared"))
+from double_round import league as double_round  # noqa: E402
 LEAGUE = HOME / "tools" / "league"
 EXAMPLES = sorted(path.parent for path in (HOME / "examples").glob("*/wanted.csv"))
 SHIRE = HOME / "examples" / "shire-league-20"
@@ -146,6 +148,19 @@ class AnswerTests(unittest.TestCase):
         done = league("ask", "--rows", "--ask", "4", "--budget", "1", data=data)
         self.assertIn(b"are unsettled (the budget was 1)", done.stderr)
 
+    def test_with_many_open_matches_scores_are_not_asked_again_and_verdicts_are(self) -> None:
+        for left, says in ((8, True), (9, False)):
+            data = "\n".join([*double_round(left, 1, 1)[0], "ask", ""]).encode()
+            once = league("ask", "--rows", "--budget", "50000", data=data).stdout
+            done = league("ask", "--rows", data=data)
+            self.assertIn(b"with the budget 50,000", done.stderr)
+            self.assertEqual(done.stdout, once)
+            one_line = b"".join(row + b"\n" for row in data.splitlines()
+                                if not row.startswith(b"line,") or row == b"line,1")
+            done = league("scores", "--rows", data=one_line)
+            self.assertEqual(b"with the budget 50,000" in done.stderr, says)
+            self.assertEqual(b"the budget was 1)" in done.stderr, not says)
+
 
 class ScreenTests(unittest.TestCase):
     """The first screen of a league of twenty on its last matchdays."""
@@ -165,7 +180,7 @@ class ScreenTests(unittest.TestCase):
                               b"Shires\n# line 6: Shield of the Shires\n# line 17: Safe\nseason\n")
         lines = league("ask", "-", self.FILES[1], data=sheet).stdout.decode().splitlines()
         self.assertTrue(all(len(line) <= 100 for line in lines), lines)
-        self.assertTrue(lines[3].startswith("Champion of the Shire (the first place). In: "))
+        self.assertTrue(lines[3].startswith("Champion of the Shire (first place). In: "))
 
     def test_points_and_points_to_come(self) -> None:
         text = league("explain", *self.FILES, "--ask", "4").stdout.decode()
@@ -190,8 +205,7 @@ class ScreenTests(unittest.TestCase):
     def changes_in(self, text: str) -> set[tuple[str, str, str]]:
         """The changes that a screen tells: line, club, and the words before and after."""
         found = set()
-        for line, told in re.findall(r"(?:The|A place among the) first (place|\d+): ([^.]*)\.",
-                                     text):
+        for line, told in re.findall(r"(?:First|The top) (place|\d+): ([^.]*)\.", text):
             for part in told.split("; "):
                 names, words = re.fullmatch(r"(.*) (\w+ → \w+)", part).groups()
                 for club in re.split(", | and ", names):
@@ -227,7 +241,7 @@ class ScreenTests(unittest.TestCase):
                                           b"# line 3\n# below line 5: relegated\n# line 5\n"
                                           b"season\n")
         text = " ".join(league("ask", "-", feed, data=data).stdout.decode().split())
-        for words in ("Orchard Cup (the first 4). In:", "A place among the first 2.",
+        for words in ("Orchard Cup (top 4). In:", "The top 2.",
                       "Out (relegated): "):
             self.assertIn(words, text)
         told = verdicts_in(league("ask", "--rows", "-", feed, data=data))

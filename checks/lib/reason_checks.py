@@ -194,11 +194,11 @@ class ScoreWordTests(unittest.TestCase):
                                           "themselves is not settled."),
                 (("82", "91", 80, 4), "92 points are enough, whatever else happens: 12 points from "
                                       "4 matches, 4 wins."),
-                (("85", "87", 80, 2), "With fewer than 86 they are out: 6 points from 2 matches "
+                (("85", "87", 80, 2), "With fewer than 86 it is out: 6 points from 2 matches "
                                       "are needed at least, 2 wins."),
-                (("83", "87", 83, 2), "Even without another point they can be in."),
+                (("83", "87", 83, 2), "Even without another point it can be in."),
                 (("81..84", "87..88", 83, 1), "Whether a defeat is too little is not settled."),
-                (("81..84", "89..90", 83, 2), "Whether the 83 points they have can do is not "
+                (("81..84", "89..90", 83, 2), "Whether the 83 points it has can do is not "
                                               "settled.")):
             text = self.told(*words)
             self.assertIn(wanted.lower(), text.lower())
@@ -209,5 +209,5 @@ class ScoreWordTests(unittest.TestCase):
             "a win is not enough by itself: the goals count."))
         self.assertTrue(self.told("83", "84", 80, 1).startswith(
             "even a win is not enough by itself. "))
-        self.assertIn("they have 86, and the goals count.", self.told("83", "87", 80, 2, True))
-        self.assertIn("they have 86. ", self.told("83", "87", 80, 2))
+        self.assertIn("it has 86, and the goals count.", self.told("83", "87", 80, 2, True))
+        self.assertIn("it has 86. ", self.told("83", "87", 80, 2))

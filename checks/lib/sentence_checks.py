@@ -18,8 +18,8 @@ sys.path.insert(0, str(HOME / "tools"))
 from leaguelib.feeds import read_input  # noqa: E402
 from leaguelib.idle_matches import idle_matches  # noqa: E402
 
-WAY = re.compile(r"They are (in|out), for example, if (?:this ends|these end) (.*?)"
-                 r"(; the other (?:match does|\d+ matches do) not matter)?\.(?= They|$)")
+WAY = re.compile(r"It is (in|out), for example, if (?:this ends|these end) (.*?)"
+                 r"(; the other (?:match does|\d+ matches do) not matter)?\.(?= It is|$)")
 MOST_FINISHES = 10_000
 
 
@@ -82,9 +82,9 @@ class SentenceTests(unittest.TestCase):
             text = " ".join(text.split())
             head = re.match(r"(.*): place \d", text)
             club = head.group(1) if head else club
-            line = re.match(r"(?:The|A place among the) first (place|\d+): ", text)
+            line = re.match(r"(?:First (place)|The top (\d+)): ", text)
             if line:
-                places = 1 if line.group(1) == "place" else int(line.group(1))
+                places = 1 if line.group(1) else int(line.group(2))
                 parts.append((club, places, text))
         return parts
 
@@ -128,7 +128,7 @@ class SentenceTests(unittest.TestCase):
                 b"match,A,D\nmatch,B,C\nmatch,A,C\nmatch,B,D\nline,1\nseason\n"
                 b"result,1,2,0\nresult,2,1,1\n")
         text = " ".join(league("explain", "--why", "A", data=data).stdout.decode().split())
-        self.assertIn("A win is enough, whatever else happens. With a defeat they are out. A draw "
+        self.assertIn("A win is enough, whatever else happens. With a defeat it is out. A draw "
                       "is enough too, unless B beats D by 2 goals or more.", text)
 
     def test_results_that_are_enough_are_enough(self) -> None:
@@ -146,7 +146,7 @@ class SentenceTests(unittest.TestCase):
     def results_hold(self, season: League, club: str, places: int, text: str) -> int:
         """How many sentences on a last result there were; each is true in every finish."""
         enough = re.search(r"[Aa] (draw|win) is enough, whatever", text)
-        too_little = re.search(r"With a (draw or a defeat|defeat) they are out", text)
+        too_little = re.search(r"With a (draw or a defeat|defeat) it is out", text)
         if not enough and not too_little:
             return 0
         least = {"draw": 1, "win": 3}[enough.group(1)] if enough else 4

@@ -30,11 +30,11 @@ season
 result,1,2,1
 """
 BOTH = "Köln – Dock United (2026-05-09)"
-FIRST = ("If it is a draw: Köln can no longer reach the first place. If Dock United win: Köln can "
-         "no longer reach the first place. A win of Köln decides nothing by itself.")
-SECOND = ("If it is a draw: Köln can no longer reach the first place. If Anchor win: Anchor are "
-          "sure of the first place; Dock United and Köln can no longer reach the first place. "
-          "A win of Dock United decides nothing by itself.")
+FIRST = ("If it is a draw: Köln can no longer reach first place. If Dock United wins: Köln can "
+         "no longer reach first place. If Köln wins, that decides nothing by itself.")
+SECOND = ("If it is a draw: Köln can no longer reach first place. If Anchor wins: Anchor is "
+          "sure of first place; Dock United and Köln can no longer reach first place. "
+          "If Dock United wins, that decides nothing by itself.")
 
 
 class TonightTests(Case):
@@ -46,15 +46,15 @@ class TonightTests(Case):
 
     def test_each_result_of_the_next_day(self) -> None:
         text = self.told("tonight", data=CUP)
-        self.assertIn("of 1 match: whatever its score, with at most 2 goals a side", text)
-        self.assertIn(f"{BOTH} {FIRST} By one result alone The first place Köln: out if they draw "
-                      "or lose. Open whatever one match brings: Anchor and Dock United.", text)
+        self.assertIn("of this match decides by itself: whatever its score (up to 2 goals a side)", text)
+        self.assertIn(f"{BOTH} {FIRST} By one result alone First place Köln: out if it draws "
+                      "or loses. Open whatever one match brings: Anchor and Dock United.", text)
 
     def test_who_is_in_and_out_by_one_result(self) -> None:
         text = self.told("tonight", "--matches", "3,2", data=CUP)
         self.assertIn(f"Dock United – Anchor (2026-05-16) {SECOND} {BOTH} {FIRST}", text)
-        self.assertIn("Anchor: in if they win. Dock United: out if they lose. Köln: out if Anchor "
-                      "do not lose to Dock United or if they draw or lose.", text)
+        self.assertIn("Anchor: in if it wins. Dock United: out if it loses. Köln: out if it draws "
+                      "or loses or if Anchor does not lose to Dock United.", text)
 
     def test_the_matches_of_a_day(self) -> None:
         text = self.told("tonight", "--round", "16 May 2026", data=CUP)
@@ -67,10 +67,10 @@ class TonightTests(Case):
     def test_a_line_says_no_more_than_another_that_says_more(self) -> None:
         lines = CUP.replace("line,1", "line,1\n# line 2: Cup\n# below line 2: relegated")
         text = self.told("tonight", "--matches", "3", data=lines)
-        self.assertIn("If Anchor win: Anchor are sure of the first place; ", text)
-        self.assertNotIn("Anchor are sure of Cup", text.split("By one result alone")[0].split(
-            "If Anchor win")[1].split("If")[0])
-        self.assertIn("Cup (the first 2) Anchor: in if they win or draw.", text)
+        self.assertIn("If Anchor wins: Anchor is sure of first place; ", text)
+        self.assertNotIn("Anchor is sure of Cup", text.split("By one result alone")[0].split(
+            "If Anchor wins")[1].split("If")[0])
+        self.assertIn("Cup (top 2) Anchor: in if it wins or draws.", text)
 
     def test_what_is_decided_already_is_not_told(self) -> None:
         data = CUP + "result,3,0,1\n"
@@ -147,7 +147,7 @@ class ProgramTests(Case):
         text = self.told("tonight", data=TINY)
         self.assertIn("2 words are unsettled (with the budget 50,000): nothing is said for or "
                       "against the club; wait for the next results.", text)
-        self.assertIn("A: in if they win. B: out whatever A – B brings.", text)
+        self.assertIn("A: in if it wins. B: out whatever A – B brings.", text)
         text = self.told("tonight", "--budget", "7", data=TINY)
         self.assertIn("(with the budget 7): nothing is said for or against the club; --budget N "
                       "takes up to 50,000.", text)

@@ -9,13 +9,10 @@ from __future__ import annotations
 
 import argparse
 
-from . import common
 from .asking import Outcome
 from .explain import first_screen, viewed
 from .front import add_budget_argument, add_front_arguments, answered
 from .given import Given
-
-STATUSES = common.FUTMAX_STATUSES
 
 
 def add_arguments(parser: argparse.ArgumentParser) -> None:

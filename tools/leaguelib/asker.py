@@ -3,13 +3,14 @@
 from __future__ import annotations
 
 from .answers import Answer, Place
-from .asking import ASK, greater_budget, run_mode, with_budget
+from .asking import ASK, run_mode, with_budget
 from .changes import Words, words_of
-from .feeds import read_input, read_sheet
+from .feeds import read_sheet
 from .line_names import asked_lines
 from .lines import line_runs, with_lines_of
 from .progress import Progress
 from .running import report_of
+from .texts import MOST_BUDGET
 
 
 class Asker:
@@ -38,12 +39,10 @@ class Asker:
         return dict(sorted(known.items(), key=lambda item: item[0][0]))
 
     def _again(self, run: list[int], known: Words, events: list[bytes]) -> Words:
-        """The unsettled words with a greater budget, where few enough matches are open for it."""
-        season = read_input(self.data + b"".join(events)).season_at(0)
-        budget = greater_budget(self.sheet, season)
-        if budget == self.sheet.budget:
+        """The unsettled words with the greatest budget."""
+        if self.sheet.budget == MOST_BUDGET:
             return {}
-        words = self._words(run, budget, events)
+        words = self._words(run, MOST_BUDGET, events)
         return {mark: word for mark, word in words.items() if known[mark] == "unsettled"}
 
     def inputs(self, events: list[bytes]) -> list[bytes]:

@@ -20,8 +20,11 @@ from .stopped import Stop, stop_of, whole_report
 from .texts import MOST_BUDGET, Season, Sheet
 
 ONE_WORKER = ("--workers", "1")
-# with so many matches open at most, an ask with the greatest budget takes about a second; with more
-# it is asked again with a budget that does so
+# with the greatest budget an ask for verdicts takes about half a second at most, however many
+# matches are open; one for scores two or three with so many, and with more it is not asked again
+MOST_OPEN_OF_SCORES = 80
+# ten matches asked about one by one take about eight seconds with so many open at most; with more
+# they are asked about again with a budget that takes five
 FEW_OPEN = 60
 MIDDLE_BUDGET = 10_000
 ASK = b"ask\n"
@@ -181,20 +184,20 @@ def with_budget(data: bytes, budget: int) -> bytes:
 
 
 def greater_budget(sheet: Sheet, season: Season) -> int:
-    """The budget to ask again with: the greatest one where few matches are open."""
+    """The budget to ask about a match again: the greatest one where few matches are open."""
     few = len(season.open_fixtures(sheet)) <= FEW_OPEN
     return max(sheet.budget, MOST_BUDGET if few else MIDDLE_BUDGET)
 
 
 def _again(path: str, mode: str, given: Given, league: Input, ask: Asked) -> Asked:
-    """The ask with a greater budget, where a row is unsettled and there is one."""
-    budget = greater_budget(league.sheet, ask.season)
-    is_long = mode == "scores" and len(ask.season.open_fixtures(league.sheet)) > FEW_OPEN
-    if not ask.unsettled or budget == ask.budget or is_long:
+    """The ask with the greatest budget, where a row is unsettled and it does not take long."""
+    still = len(ask.season.open_fixtures(league.sheet))
+    is_long = mode == "scores" and still > MOST_OPEN_OF_SCORES
+    if not ask.unsettled or ask.budget == MOST_BUDGET or is_long:
         return ask
-    data = with_budget(with_asks(given.data, league, [ask.position]), budget)
+    data = with_budget(with_asks(given.data, league, [ask.position]), MOST_BUDGET)
     answers, _ = _over_lines(path, mode, data, given, league)
-    return Asked(ask.position, ask.line, ask.season, answers[0], budget, True)
+    return Asked(ask.position, ask.line, ask.season, answers[0], MOST_BUDGET, True)
 
 
 def budget_note(ask: Asked) -> str:

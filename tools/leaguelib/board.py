@@ -11,6 +11,7 @@ import argparse
 import os
 import time
 from dataclasses import dataclass, field
+from typing import Tuple
 
 from . import common
 from .answers import Place, Verdict
@@ -40,7 +41,7 @@ MONTHS = ("January", "February", "March", "April", "May", "June", "July", "Augus
 # with so many matches open at most, the page tells how many points are enough
 FEW_OPEN = 20
 
-Mark = tuple[int, str]
+Mark = Tuple[int, str]
 
 
 @dataclass

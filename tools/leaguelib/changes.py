@@ -3,7 +3,7 @@
 from __future__ import annotations
 
 from dataclasses import dataclass
-from typing import Iterable
+from typing import Dict, Iterable, Tuple
 
 from .answers import Verdict
 from .line_names import LineNames
@@ -13,7 +13,7 @@ ARROW = "→"
 FEW = 6
 SHORT = {"clinched": "in", "lost": "out", "possible": "open", "unsettled": "not settled"}
 
-Words = dict[tuple[int, str], str]
+Words = Dict[Tuple[int, str], str]
 
 
 @dataclass(frozen=True)

@@ -21,8 +21,6 @@ from .running import Run
 from .stopped import Stop, stop_of
 from .wording import counted, paragraph
 
-STATUSES = common.FUTMAX_STATUSES
-
 
 def add_arguments(parser: argparse.ArgumentParser) -> None:
     """The words of this part."""

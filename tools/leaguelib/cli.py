@@ -1,8 +1,7 @@
 """The words of the command `league`: which part is called, and with which status it ends.
 
-A part is a module with `add_arguments(parser)` and `run(arguments) -> int`, and with `STATUSES`
-where its statuses are not those of the other parts. A part raises `Trouble` if it cannot go on.
-Parts whose module is not there are left out.
+A part is a module with `add_arguments(parser)` and `run(arguments) -> int`. It raises `Trouble` if
+it cannot go on. Parts whose module is not there are left out.
 """
 
 from __future__ import annotations
@@ -21,7 +20,7 @@ PARTS = {
     "table": "the table of the matches played",
     "scores": "how many points are enough, and how many are too few",
     "check": "whether a report proves what it says",
-    "explain": "the same on one screen, what changed, and why",
+    "explain": "the same as ask, what changed since a day, and why",
     "places": "the best and the worst place still possible for each club",
     "board": "write an answer as a page for the browser",
     "tonight": "what each open match of the evening would decide",
@@ -88,7 +87,7 @@ def read_words(given: list[str]) -> argparse.Namespace:
         return make_parser().parse_args(given)
     part = importlib.import_module(f"{__package__}.{chosen}")
     parser = Parser(prog=f"league {chosen}", description=(part.__doc__ or "").strip(),
-                    epilog=getattr(part, "STATUSES", common.STATUS_TABLE))
+                    epilog=common.STATUS_TABLE)
     part.add_arguments(parser)
     parser.set_defaults(run=part.run, part=chosen)
     rest = given[1:]

@@ -20,31 +20,21 @@ OWN_FAULT = 70
 INTERRUPTED = 130
 
 STATUS_TABLE = """\
-exit statuses:
-  0    done, and nothing to fix
+exit statuses; those with a star are of ask, table, scores, tonight and check, as futmax has them:
+  0    done: nothing to fix, every ask is answered, or the report is accepted
   1    wrong arguments
   2    something in the input must be fixed; the messages say what
-  3    the input can be used, and something in it looks wrong (lint, sheet)
+  2 *  a line of the sheet is refused
+  3    the input can be used, but something looks wrong, is unsettled or was not checked
+  3 *  a line of the feed is refused; answers before it are good
   4    a file, or standard input, cannot be read
   5    the output cannot be written
   6    the program futmax cannot be run, or it ended with a fault
+  6 *  out of memory
+  7 *  the report is no proof
+  8 *  a line has more than 1,024 bytes, or the input more than 67,108,864
   70   a fault of league itself
-  130  stopped by hand (Ctrl-C)
-"""
-
-
-FUTMAX_STATUSES = """\
-exit statuses, those of futmax:
-  0    every ask is answered; or the report is accepted
-  1    wrong arguments
-  2    a line of the sheet is refused
-  3    a line of the feed is refused; answers before it are good
-  4    a file, or standard input, cannot be read
-  5    the output cannot be written
-  6    out of memory
-  7    the report is no proof
-  8    a line has more than 1,024 bytes, or the input more than 67,108,864
-  70   the program futmax is not there or cannot be run, or a fault of league itself
+  70 * the program futmax is not there or cannot be run
   130  stopped by hand (Ctrl-C)
 """
 

@@ -52,10 +52,10 @@ def _enough_in_one(found: dict, now: int, own_goals: bool) -> str:
 def _too_little_in_one(found: dict, now: int) -> str:
     """Which results of the last match are too little."""
     least, most = found["least"] - now, found["most"] - now
-    sure = "With a draw or a defeat they are out." if least > 1 else (
-        "With a defeat they are out." if least > 0 else "")
+    sure = "With a draw or a defeat it is out." if least > 1 else (
+        "With a defeat it is out." if least > 0 else "")
     if most <= 0:
-        return "Even with a defeat they can be in."
+        return "Even with a defeat it can be in."
     return sure if sure or least == most else "Whether a defeat is too little is not settled."
 
 
@@ -68,7 +68,7 @@ def _enough(found: dict, now: int, left: int, own_goals: bool) -> str:
             "whether it hangs on the others is not settled.")
     if least > all_won:
         why = ", and the goals count" if own_goals else ""
-        return (f"no number of points is enough by itself: with all {3 * left} to come they have "
+        return (f"no number of points is enough by itself: with all {3 * left} to come it has "
                 f"{all_won}{why}.")
     if most > all_won:
         return (f"whether all {3 * left} points to come, {all_won} in all, are enough by "
@@ -84,21 +84,21 @@ def _too_few(found: dict, now: int, left: int) -> str:
     """With how few points the club is out for sure."""
     least, most = (next_total(found[end], now, left) for end in ("least", "most"))
     if most <= now:
-        return "Even without another point they can be in." if left else ""
+        return "Even without another point it can be in." if left else ""
     if least <= now:
-        return (f"Whether the {counted(now, 'point')} they have can do is not settled."
+        return (f"Whether the {counted(now, 'point')} it has can do is not settled."
                 if now > 0 else "Whether they can be in without another point is not settled.")
     needed = needed_text(least - now, left)
     if least != most:
-        return (f"With fewer than {least} they are out: {needed}; whether {least} can do is not "
+        return (f"With fewer than {least} it is out: {needed}; whether {least} can do is not "
                 "settled.")
-    return f"With fewer than {least} they are out: {needed}."
+    return f"With fewer than {least} it is out: {needed}."
 
 
 def results_text(need: int, left: int) -> str:
     """So many points in results, at the least, out of the matches that are left."""
     if need <= 0:
-        return "they have them"
+        return "it has them"
     return f"{counted(need, 'point')} from {left} matches, {least_results(need, left)}"
 
 

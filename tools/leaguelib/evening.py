@@ -9,6 +9,7 @@ from __future__ import annotations
 
 import re
 from dataclasses import replace
+from typing import Tuple
 
 from .bookkeeper import Bookkeeper, Unclear
 from .match_lines import Parts, parts_of
@@ -22,7 +23,7 @@ UNDO = "# undo"
 IN_PLAY = re.compile(r"^#\s*in play:\s*(\d{1,6})\s*,\s*(?:(\d{1,2})\s*,\s*(\d{1,2})|none)\s*$")
 TILDE = re.compile(r"^\s*~\s*|~\s*(?=\d)|(?<=\d)\s*~\s*|\s*~\s*$")
 
-Score = tuple[int, int]
+Score = Tuple[int, int]
 
 
 def in_play_line(fixture: int, score: Score | None) -> str:

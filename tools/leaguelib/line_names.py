@@ -32,10 +32,10 @@ class LineNames:
     below: dict[int, str] = field(default_factory=dict)
 
     def place(self, places: int) -> str:
-        """What a line asks for: `Champions League (the first 4)`, or in words alone."""
+        """What a line asks for: `Champions League (top 4)`, or in words alone."""
         if places not in self.inside:
             return place_phrase(places)
-        count = "the first place" if places == 1 else f"the first {places}"
+        count = "first place" if places == 1 else f"top {places}"
         return f"{self.inside[places]} ({count})"
 
     def outside(self, places: int) -> str:

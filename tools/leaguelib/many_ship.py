@@ -3,7 +3,7 @@
     league many --ship league.pyz
     python3 league.pyz ask sheet.csv feed.csv
 
-The machine needs Python 3. The file unpacks the program once, into a folder of the user's own.
+The machine needs Python 3.8. The file unpacks the program once, into a folder of the user's own.
 """
 
 from __future__ import annotations

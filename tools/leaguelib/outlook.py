@@ -8,6 +8,7 @@ from __future__ import annotations
 
 import re
 from dataclasses import dataclass
+from typing import Dict, Tuple
 
 from .answers import OUTCOMES
 from .asking import ASK, greater_budget, run_mode, with_budget
@@ -20,7 +21,7 @@ from .texts import Fixture, Season, Sheet
 MOST_MATCHES = 12
 ISO_DATE = re.compile(r"^\d{4}-\d{2}-\d{2}$")
 
-Given = dict[tuple[int, str], Words]
+Given = Dict[Tuple[int, str], Words]
 
 
 @dataclass(frozen=True)

@@ -117,7 +117,7 @@ def _short(word: str, short: str) -> str:
 def _head(board: Board, places: int) -> str:
     """The head of a line's column: its name, if it has one, and its places."""
     name = board.names.inside.get(places)
-    text = f'<span class="count">{"First" if places == 1 else f"First {places}"}</span>'
+    text = f'<span class="count">{"First" if places == 1 else f"Top {places}"}</span>'
     return f'<span class="name">{name_of(name)}</span> {text}' if name else text
 
 

@@ -64,7 +64,7 @@ def _outcome(one: Outlook) -> str:
     """An outcome in words."""
     if one.outcome == "draw":
         return "a draw"
-    return f"{name_of(one.fixture.home if one.outcome == 'home' else one.fixture.away)} win"
+    return f"{name_of(one.fixture.home if one.outcome == 'home' else one.fixture.away)} wins"
 
 
 def _decided(board: Board, one: Outlook) -> str:

@@ -8,7 +8,6 @@ from __future__ import annotations
 
 import argparse
 
-from . import common
 from .answers import Place, Score
 from .asking import Outcome, budget_note, run_mode, with_asks
 from .enough import score_words
@@ -20,8 +19,6 @@ from .running import report_of
 from .screen import state_text
 from .texts import Season, Sheet
 from .wording import counted, listed, paragraph, shown
-
-STATUSES = common.FUTMAX_STATUSES
 
 
 def add_arguments(parser: argparse.ArgumentParser) -> None:

@@ -4,6 +4,8 @@ come.
 
 from __future__ import annotations
 
+from typing import Dict
+
 from .answers import Place, Verdict
 from .changes import SHORT
 from .line_names import LineNames
@@ -13,7 +15,7 @@ from .wording import WIDTH, counted, listed, paragraph, rules_phrase, shown
 
 HEADS = ["place", "club", "played", "points", "to come", "difference"]
 MOST_LISTED = 6
-Marks = dict[int, dict[str, str]]
+Marks = Dict[int, Dict[str, str]]
 
 
 def state_text(sheet: Sheet, season: Season, place: str) -> str:
@@ -27,9 +29,9 @@ def state_text(sheet: Sheet, season: Season, place: str) -> str:
 def limit_text(sheet: Sheet, season: Season) -> str:
     """What the words in, out and open rest on."""
     if not season.open_fixtures(sheet):
-        return "In and out hold however lots are drawn; no match is open."
-    return paragraph(f"In and out hold however the open matches end, with at most "
-                     f"{counted(sheet.goal_limit, 'goal')} a side, and however lots are drawn; "
+        return "In and out are certain however lots are drawn; no match is open."
+    return paragraph("In and out are certain however the open matches end (with at most "
+                     f"{counted(sheet.goal_limit, 'goal')} a side) and however lots are drawn; "
                      "open can still go either way.")
 
 
@@ -104,4 +106,4 @@ def _head(places: int, names: LineNames | None) -> str:
     """The head of a line's column."""
     if names is not None and places in names.inside:
         return shown(names.inside[places])
-    return "first" if places == 1 else f"first {places}"
+    return "first" if places == 1 else f"top {places}"

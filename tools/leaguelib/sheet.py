@@ -26,9 +26,10 @@ from .words import words_for
 
 ORDER_HELP = """\
 Which criteria decide first between clubs level on points? Say --order head_first or overall_first.
-  head_first     the matches between the clubs that are level, before goal difference:
-                 European Championship groups, Spain (La Liga), Italy (Serie A), Portugal,
-                 Champions League groups up to 2023/24
+  head_first     points, goal difference and goals in the matches between the clubs that are level:
+                 European Championship groups, Champions League groups 2021-24; not Spain (La Liga)
+                 and Italy (Serie A) if three or more clubs can be level: they go from goal
+                 difference in these matches to overall goal difference
   overall_first  goal difference and goals over all matches, before the matches between them:
                  Premier League, Bundesliga, Eredivisie, World Cup groups up to 2022
 Rules change, and a play-off or fair play may come in: look into the rules of your competition."""
@@ -47,7 +48,7 @@ def add_arguments(parser: argparse.ArgumentParser) -> None:
     parser.add_argument("--order", choices=ORDERS, help="which criteria come first")
     parser.add_argument("--goal-limit", type=int, default=9, metavar="L",
                         help="most goals a side in an open match, 1 to 20 (9)")
-    parser.add_argument("--budget", type=int, metavar="B", help="the node budget, 1 to 50000")
+    parser.add_argument("--budget", type=int, metavar="B", help="the search budget, 1 to 50000")
     parser.add_argument("--ranks", metavar="FILE",
                         help="lines NAME,RANK: the clubs in their order, with their ranks")
     add_alias_argument(parser)

@@ -6,14 +6,14 @@ compared in their order: ranges that lie apart decide, two equal single values g
 
 from __future__ import annotations
 
-from typing import Callable
+from typing import Callable, Tuple
 
 from .texts import Fixture
 from .wording import counted, listed, shown
 from .zones import Score, Zone, match_points
 
-Range = tuple[int, int]
-Part = tuple[str, Callable[[Score, bool], int]]
+Range = Tuple[int, int]
+Part = Tuple[str, Callable[[Score, bool], int]]
 
 DIFFERENCE: Part = ("goal difference",
                     lambda score, home: _own(score, home) - _own(score, not home))

@@ -7,13 +7,10 @@ from __future__ import annotations
 
 import argparse
 
-from . import common
 from .asking import Outcome
 from .front import add_front_arguments, answered, place_of_ask, season_sheet
 from .given import Given
 from .screen import state_text, table_text
-
-STATUSES = common.FUTMAX_STATUSES
 
 
 def add_arguments(parser: argparse.ArgumentParser) -> None:

@@ -30,8 +30,6 @@ from .tonight_words import Evening, evening_text
 from .view import table_at
 from .wording import days_of
 
-STATUSES = common.FUTMAX_STATUSES
-
 
 def add_arguments(parser: argparse.ArgumentParser) -> None:
     """The words of this part."""

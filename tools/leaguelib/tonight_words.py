@@ -16,8 +16,9 @@ from .screen import MOST_LISTED, state_text
 from .texts import MOST_BUDGET, Fixture, Sheet
 from .wording import counted, listed, match_text, paragraph, shown
 
-WAYS = {("home",): "win", ("draw",): "draw", ("away",): "lose", ("home", "draw"): "win or draw",
-        ("draw", "away"): "draw or lose", ("home", "away"): "do not draw"}
+WAYS = {("home",): "wins", ("draw",): "draws", ("away",): "loses",
+        ("home", "draw"): "wins or draws", ("draw", "away"): "draws or loses",
+        ("home", "away"): "does not draw"}
 TURNED = {"home": "away", "draw": "draw", "away": "home"}
 
 
@@ -61,10 +62,11 @@ def evening_text(evening: Evening) -> str:
     if not evening.fixtures:
         return "\n".join([*parts, "No match is open, so nothing is left to decide."]) + "\n"
     goals = counted(evening.sheet.goal_limit, "goal")
-    matches = counted(len(evening.fixtures), "match", "matches")
-    parts += [paragraph(f"What each result decides by itself, of {matches}: whatever its score, "
-                        f"with at most {goals} a side, however the other open matches end, and "
-                        "however lots are drawn."), ""]
+    count = len(evening.fixtures)
+    matches = "this match" if count == 1 else f"these {count} matches"
+    parts += [paragraph(f"What each result of {matches} decides by itself: whatever its score (up "
+                        f"to {goals} a side), however the other open matches end, and however lots "
+                        "are drawn."), ""]
     parts += [*_match_texts(evening), *_line_texts(evening)]
     if evening.unsettled:
         advice = "wait for the next results" if evening.budget >= MOST_BUDGET else (
@@ -85,12 +87,12 @@ def _match_texts(evening: Evening) -> list[str]:
             continue
         day = evening.days.get(fixture.number, "")
         texts.append(match_text(fixture) + (f" ({day})" if day else ""))
-        texts += [paragraph(f"If {_outcome_text(one)}: {_decided_text(evening, one)}.", 2)
-                  for one in its]
+        texts += [paragraph(f"If {_outcome_text(fixture, one.outcome)}: "
+                            f"{_decided_text(evening, one)}.", 2) for one in its]
         missing = [outcome for outcome in OUTCOMES if outcome not in [one.outcome for one in its]]
         if missing:
-            texts.append(paragraph(f"{plain(_result_text(fixture, missing))} decides nothing by "
-                                   "itself.", 2))
+            ways = listed([_outcome_text(fixture, outcome) for outcome in missing], "or")
+            texts.append(paragraph(f"If {ways}, that decides nothing by itself.", 2))
     if quiet:
         rest = f"of {listed(quiet)}" if len(quiet) <= MOST_LISTED else (
             f"of the other {len(quiet)} matches" if texts else "of these matches")
@@ -98,17 +100,11 @@ def _match_texts(evening: Evening) -> list[str]:
     return texts
 
 
-def _outcome_text(one: Outlook) -> str:
+def _outcome_text(fixture: Fixture, outcome: str) -> str:
     """An outcome after `if`."""
-    if one.outcome == "draw":
+    if outcome == "draw":
         return "it is a draw"
-    return f"{shown(one.fixture.home if one.outcome == 'home' else one.fixture.away)} win"
-
-
-def _result_text(fixture: Fixture, outcomes: list[str]) -> str:
-    """Outcomes as a noun."""
-    return listed([{"home": f"a win of {shown(fixture.home)}", "draw": "a draw",
-                    "away": f"a win of {shown(fixture.away)}"}[it] for it in outcomes], "or")
+    return f"{shown(fixture.home if outcome == 'home' else fixture.away)} wins"
 
 
 def _decided_text(evening: Evening, one: Outlook) -> str:
@@ -121,12 +117,13 @@ def _decided_text(evening: Evening, one: Outlook) -> str:
         names = listed(clubs) if len(clubs) <= MOST_LISTED else f"{len(clubs)} clubs"
         place, below = evening.names.place(places), evening.names.outside(places)
         out = f"can no longer reach {place}" + (f" ({below})" if below else "")
-        texts.append(f"{names} {'are sure of ' + place if word == 'clinched' else out}")
+        sure = f"{'is' if len(clubs) == 1 else 'are'} sure of {place}"
+        texts.append(f"{names} {sure if word == 'clinched' else out}")
     return "; ".join(texts)
 
 
 def _is_implied(change: Change, changes: tuple[Change, ...]) -> bool:
-    """Whether another line says more: sure of the first 2 is sure of the first 3 as well."""
+    """Whether another line says more: sure of the top 2 is sure of the top 3 as well."""
     return any(other.club == change.club and other.now == change.now and (
         other.places < change.places if change.now == "clinched"
         else other.places > change.places) for other in changes)
@@ -153,11 +150,12 @@ def _line_texts(evening: Evening) -> list[str]:
 
 
 def _ways_text(evening: Evening, places: int, club: str) -> str:
-    """By which results a club is in, and by which out; nothing if by none."""
+    """By which results a club is in, and by which out, its own first; nothing if by none."""
     texts = []
+    fixtures = sorted(evening.fixtures, key=lambda it: club not in (it.home, it.away))
     for word, short in (("clinched", "in"), ("lost", "out")):
         ways = []
-        for fixture in evening.fixtures:
+        for fixture in fixtures:
             outcomes = [outcome for outcome in OUTCOMES
                         if evening.given[fixture.number, outcome].get((places, club)) == word]
             if outcomes:
@@ -175,9 +173,9 @@ def _way_text(fixture: Fixture, outcomes: list[str], club: str) -> str:
     if club == fixture.away:
         outcomes = [it for it in OUTCOMES if TURNED[it] in outcomes]
     if club in (fixture.home, fixture.away):
-        return f"if they {WAYS[tuple(outcomes)]}"
-    return {("home",): f"if {home} beat {away}", ("draw",): f"if {home} and {away} draw",
-            ("away",): f"if {away} beat {home}",
-            ("home", "draw"): f"if {home} do not lose to {away}",
-            ("draw", "away"): f"if {away} do not lose to {home}",
+        return f"if it {WAYS[tuple(outcomes)]}"
+    return {("home",): f"if {home} beats {away}", ("draw",): f"if {home} and {away} draw",
+            ("away",): f"if {away} beats {home}",
+            ("home", "draw"): f"if {home} does not lose to {away}",
+            ("draw", "away"): f"if {away} does not lose to {home}",
             ("home", "away"): f"if {home} and {away} do not draw"}[tuple(outcomes)]

@@ -2,6 +2,8 @@
 
 from __future__ import annotations
 
+from typing import Dict, Tuple
+
 from .answer_end import AnswerEnd
 from .answers import read_report
 from .asking import ONE_WORKER
@@ -9,7 +11,7 @@ from .records import fields_of
 from .session import Session
 from .texts import Season, Sheet
 
-Scores = dict[int, tuple[int, int]]
+Scores = Dict[int, Tuple[int, int]]
 
 
 class Trial:

@@ -1,4 +1,4 @@
-"""When a draw in the last match is not enough: "A draw is enough too, unless City win by nine".
+"""When a draw in the last match is not enough: "A draw is enough too, unless City wins by nine".
 
 It is told where one other match decides it, and the program has said `clinched` for each draw with
 each score of that match but those that are named, whatever the remaining matches do.

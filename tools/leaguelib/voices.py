@@ -120,8 +120,8 @@ class Speaker:
                  f"score up to {goals} a side and however the other open matches end:"]
         for one in found:
             home, away = shown(one.fixture.home), shown(one.fixture.away)
-            outcome = {"home": f"if {home} win", "draw": "if it is a draw",
-                       "away": f"if {away} win"}[one.outcome]
+            outcome = {"home": f"if {home} wins", "draw": "if it is a draw",
+                       "away": f"if {away} wins"}[one.outcome]
             told = [f"{shown(change.club)}, {self.names.place(change.places)}: {SHORT[change.now]}"
                     for change in one.changes]
             lines.append(f"  {home} - {away}, {outcome}: {'; '.join(told)}")

@@ -168,7 +168,7 @@ def _fewer_goals(score: tuple[int, int]) -> list[tuple[int, int]]:
 
 
 def way_text(sheet: Sheet, season: Season, way: Way, verb: str) -> str:
-    """A way in words, after a verb like `They are in`."""
+    """A way in words, after a verb like `It is in`."""
     if len(way.scores) > FEW_OPEN:
         return (f"{verb}, for example, in an end that names all {len(way.scores)} open matches; "
                 "`league ask --json --examples` writes it.")

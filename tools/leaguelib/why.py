@@ -148,7 +148,7 @@ def _open_texts(why: Why, verdict: Verdict) -> list[str]:
                 own = next(it for it in why.points.open if club in (it.home, it.away))
                 words += " " + unless_text(trial, club, own)
             parts.append(paragraph(plain(words.strip()), 2))
-        for claim, verb in (("inside", "They are in"), ("outside", "They are out")):
+        for claim, verb in (("inside", "It is in"), ("outside", "It is out")):
             if claim in ways:
                 parts.append(paragraph(way_text(view.sheet, view.season, ways[claim], verb), 2))
     return parts

@@ -34,7 +34,7 @@ def shown(name: str) -> str:
 
 def place_phrase(places: int) -> str:
     """What a line asks for."""
-    return "the first place" if places == 1 else f"a place among the first {places}"
+    return "first place" if places == 1 else f"the top {places}"
 
 
 def listed(names: list[str], word: str = "and") -> str:

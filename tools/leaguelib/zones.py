@@ -3,10 +3,11 @@
 from __future__ import annotations
 
 from dataclasses import dataclass, field
+from typing import Tuple
 
 from .texts import Fixture, Season, Sheet
 
-Score = tuple[int, int]
+Score = Tuple[int, int]
 
 
 def match_points(score: Score) -> tuple[int, int]:

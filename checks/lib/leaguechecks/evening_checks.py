@@ -96,16 +96,16 @@ def _check_answers(counter: Counter, evening: Evening) -> None:
     counter.check("evening: what changed", missing(
         run, "answer 1, after 1 event, however the open matches end, with at most 2 goals a side, "
              "and however lots are drawn:",
-        "  The first place - open: Anchor, Köln and Dock United",
+        "  First place - open: Anchor, Köln and Dock United",
         "answer 2, after 1 event:", "  nothing changed since the last ask",
-        "answer 3, after 2 events:", "  Köln, the first place: open → out",
+        "answer 3, after 2 events:", "  Köln, first place: open → out",
         "verdict,1,Anchor,possible", "verdict,1,Köln,lost", "verdict,1,Dock United,possible"))
     counter.check("evening: one change alone", [] if sum("→" in it for it in lines_of(run)) == 1
                   else lines_of(run))
     run = evening.run("ask\n", "result,1,2,1\nask\nresult,2,0,0\n")
     counter.check("evening: since the last ask of the log", missing(
         run, "2 events of the log replayed", "answer 1, after 2 events:",
-        "  Köln, the first place: open → out"))
+        "  Köln, first place: open → out"))
 
 
 def _check_undo(counter: Counter, evening: Evening) -> None:
@@ -150,7 +150,7 @@ def _check_in_play(counter: Counter, evening: Evening) -> None:
         "    1  Anchor            1       3          +1      2",
         "    2  Dock United       1       1           0      0",
         "    3  Köln              2       1          -1      1",
-        "Köln, the first place: open → out"))
+        "Köln, first place: open → out"))
     log = evening.kept()
     wanted = "result,1,2,1\nask\n# in play: 2,0,0\nask\n"
     counter.check("evening: it is a comment of the log", [] if log == wanted else [log])
@@ -183,17 +183,17 @@ def _check_tonight(counter: Counter, evening: Evening) -> None:
     counter.check("evening: tonight", missing(
         run, "of 2 matches, each by itself, whatever its score up to 2 goals a side and however "
              "the other open matches end:",
-        "  Köln - Dock United, if it is a draw: Köln, the first place: out",
-        "  Köln - Dock United, if Dock United win: Köln, the first place: out",
-        "  Dock United - Anchor, if it is a draw: Köln, the first place: out",
-        "  Dock United - Anchor, if Anchor win: Anchor, the first place: in; Köln, the first "
-        "place: out; Dock United, the first place: out"))
+        "  Köln - Dock United, if it is a draw: Köln, first place: out",
+        "  Köln - Dock United, if Dock United wins: Köln, first place: out",
+        "  Dock United - Anchor, if it is a draw: Köln, first place: out",
+        "  Dock United - Anchor, if Anchor wins: Anchor, first place: in; Köln, first place: "
+        "out; Dock United, first place: out"))
     counter.check("evening: what one match decides", missing(
         evening.run("when dock - anchor\nwhen,2\n", "result,1,2,1\n"),
         "of 1 match, each by itself, whatever its score up to 2 goals a side and however the other "
         "open matches end:",
-        "  Dock United - Anchor, if it is a draw: Köln, the first place: out",
-        "  Köln - Dock United, if it is a draw: Köln, the first place: out"))
+        "  Dock United - Anchor, if it is a draw: Köln, first place: out",
+        "  Köln - Dock United, if it is a draw: Köln, first place: out"))
     asked = evening.run("when,1\nwhen Köln\nwhen,7\n", "result,1,2,1\n")
     for says in ("line 1, `when,1`: refused, not sent: This match has a result already; nothing",
                  "line 2, `when Köln`: refused, not sent: a match is asked about like `when ",
@@ -206,7 +206,7 @@ def _check_tonight(counter: Counter, evening: Evening) -> None:
     counter.check("evening: rows of a when", sound_end(rows) + (
         [] if lines[0] == "when,1,2,home" and lines[-1] == "# end of answer 1, after 1 event"
         else lines))
-    counter.check("evening: no more than that", [] if sum("the first place" in it for it in lines_of(run)) == 4
+    counter.check("evening: no more than that", [] if sum("first place" in it for it in lines_of(run)) == 4
                   else lines_of(run))
 
 
@@ -215,10 +215,10 @@ def _check_lines(counter: Counter, evening: Evening) -> None:
     evening.sheet.write_text(SHEET.replace("line,1", "# line 1: Cup\nline,1\n# line 2"), "utf-8")
     run = evening.run("Anchor 2-1 Köln\nask\nKöln 0-0 dock\nask\n")
     counter.check("evening: names of lines", missing(
-        run, "  Cup (the first place) - open: Anchor, Köln and Dock United",
-        "  A place among the first 2 - open: Anchor, Köln and Dock United",
-        "match 2: Köln 0-0 Dock United noted", "  Köln, Cup (the first place): open → out",
-        "  Anchor, a place among the first 2: open → in"))
+        run, "  Cup (first place) - open: Anchor, Köln and Dock United",
+        "  The top 2 - open: Anchor, Köln and Dock United",
+        "match 2: Köln 0-0 Dock United noted", "  Köln, Cup (first place): open → out",
+        "  Anchor, the top 2: open → in"))
     evening.sheet.write_text(SHEET, "utf-8")
 
 

@@ -107,7 +107,7 @@ def _grows(running: Running, log: Path) -> None:
     running.add("2,2\n")
     running.hears("log.csv, line 5: match 3: Dock United 2-2 Anchor noted")
     running.type("ask")
-    running.hears("answer 2, after 3 events:\n  Anchor, the first place: open → in\n")
+    running.hears("answer 2, after 3 events:\n  Anchor, first place: open → in\n")
     running.ends(0)
     running.keeps(log, "result,1,2,1\n# in play: 3,1,1\nresult,2,0,0\nask\nresult,3,2,2\nask\n")
 

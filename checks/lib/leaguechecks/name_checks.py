@@ -140,7 +140,7 @@ def check_line_runs(counter: Counter) -> None:
     sheet, names = read_input(data).sheet, names_in(data)
     places = [names.place(1), names.place(2), names.outside(2), names.outside(1)]
     counter.check("names of lines", [] if places == [
-        "the first place", "Cup (the first 2)", "relegated", ""] else [str(places)])
+        "first place", "Cup (top 2)", "relegated", ""] else [str(places)])
     counter.check("lines of a sheet", [] if asked_lines(data, sheet) == [1, 2] else ["other lines"])
     runs = line_runs([1, 2, 4, 5, 6, 17])
     counter.check("runs of lines", [] if runs == [[1, 2, 4, 5], [6, 17]] and line_runs([]) == [[]]

@@ -1,17 +1,11 @@
 -- Answers that go out row by row.
-use Rattle.std.proofs.Common.{◌≡◌, List, [], ◌++◌, Option, Some, None, Result, Ok, Err, refl, ap}
-use Rattle.std.proofs.Common.{sym, ◌∙◌, ℕ}
+use Rattle.std.proofs.Common.{◌≡◌, List, ◌++◌, Option, Result, Ok, Err, ap, sym, ◌∙◌, ℕ}
 use Rattle.std.specs.Io.KnownBytes.{append_known}
-use Rattle.std.proofs.lemmas.List.{append_assoc, append-nil}
+use Rattle.std.proofs.lemmas.List.{append_assoc}
 use Rattle.port_core.specs.Ports.{AppendsPrefix}
-use Rattle.port_core.proofs.RowLemmas.{append_known-append_known}
 use Rattle.answer_rows.specs.declared.output.OutputStop.{OutputStop}
 use Rattle.answer_rows.specs.inside.Outputs.{Puts}
-
--- nothing written leaves the sink's bytes
-pub append_known-nothing : (old : Option (List ℕ)) → old ≡ append_known old []
-append_known-nothing None = refl
-append_known-nothing (Some bytes) = ap Some (sym (append-nil bytes))
+use Rattle.league_core.proofs.plain.Streams.{append_known-append_known}
 
 -- of a text some part was written, and the rest is due
 pub record IsDue (text rest : List ℕ) (old now : Option (List ℕ)) : Type 0 where

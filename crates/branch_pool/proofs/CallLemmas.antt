@@ -1,18 +1,12 @@
 -- What the calls need of the fields before they change them: that a leaf may be lent, that what is
 -- out is where its ticket says, and that it may come back.
-use Rattle.std.proofs.Common.{◌≡◌, ◌≢◌, ℕ, zero, suc, ◌+◌, ◌^◌, ◌<◌, ◌≤◌, Bool}
-use Rattle.std.proofs.Common.{true, false}
-use Rattle.std.proofs.Common.{List, [], ◌∷◌, length, Option, Some, None, refl, sym, ap}
-use Rattle.std.proofs.Common.{◌∙◌, inl, inr, arith, get_or, set, nat_lt}
+use Rattle.std.proofs.Common.{◌≡◌, ◌≢◌, ℕ, zero, suc, ◌+◌, ◌^◌, ◌<◌, ◌≤◌, Bool, true, false, List}
+use Rattle.std.proofs.Common.{[], ◌∷◌, length, Option, Some, None, refl, sym, ap, ◌∙◌, arith, set}
 use Rattle.std.specs.Prelude.{IfSome, position}
-use Rattle.std.specs.List.{slice_get, list_any, position_or_len}
-use Rattle.std.proofs.lemmas.List.Folds.{list_any_none}
-use Rattle.std.proofs.lemmas.List.Sums.{fails_before_first}
+use Rattle.std.specs.List.{slice_get}
 use Rattle.std.specs.Option.{option_or}
-use Rattle.std.proofs.lemmas.Bool.{and_parts, cases_lt, cond-true, lt-ltb}
-use Rattle.std.proofs.lemmas.Option.{same_Some, none-some, slice_get-get_or}
-use Rattle.std.proofs.lemmas.Option.{slice_get_read}
-use Rattle.std.proofs.lemmas.List.{set-get_or}
+use Rattle.std.proofs.lemmas.Bool.{and_parts}
+use Rattle.std.proofs.lemmas.Option.{same_Some, none-some}
 use Rattle.std.proofs.lemmas.List.Quantifiers.{position-Some}
 use Rattle.league_core.specs.declared.zone.Zone.{Zone}
 use Rattle.reason_core.specs.declared.finding.Finding.{Finding}
@@ -23,26 +17,20 @@ use Rattle.league_core.proofs.LendingLemmas.{length-lent_zones, times_lent-le}
 use Rattle.branch_pool.specs.declared.question_state.QuestionState.{QuestionState}
 use Rattle.branch_pool.specs.declared.question_state.Loan.{Loan}
 use Rattle.branch_pool.specs.declared.ticket.Ticket.{Ticket}
-use Rattle.branch_pool.specs.inside.States.{PoolView, present_epoch, is_workable, has_work}
-use Rattle.branch_pool.specs.inside.States.{loan_at, free_number, with_loan}
+use Rattle.branch_pool.specs.inside.States.{PoolView, present_epoch, is_workable, has_work, loan_at}
+use Rattle.branch_pool.specs.inside.States.{free_number, with_loan}
 use Rattle.branch_pool.specs.inside.Steps.{IsOwnTicket, IsPresent, loan_of, ComesHome, Keeps}
 use Rattle.branch_pool.specs.inside.Steps.{loans_home, seat_after, MayBeGiven}
 use Rattle.branch_pool.specs.inside.QuestionStates.{LendsSeat, MayLend}
 use Rattle.branch_pool.specs.inside.Goodness.{IsSoundPool, IsGoodSeat, IsGoodLoan, zones_due}
 use Rattle.branch_pool.specs.inside.Calls.{next_place, is_untouched, LendsNext}
-use Rattle.branch_pool.proofs.SlotLemmas.{All-at, loan_at-free, loan_meets}
+use Rattle.branch_pool.proofs.SlotLemmas.{loan_at-free, loan_meets}
 use Rattle.branch_pool.proofs.QuestionStateLemmas.{workable_within, lent_once}
 use Rattle.branch_pool.proofs.LoanLemmas.{due_here}
+use Rattle.league_core.proofs.plain.Slots.{All-at}
+use Rattle.league_core.proofs.plain.Places.{none_passes, passes_there}
 
 -- ---- take
-
--- where a list has a place that passes, the element there passes
-passes_there : {X : Type 0} (p : X → Bool) (xs : List X) (place : ℕ) (x : X)
-    → position p xs ≡ Some place → slice_get xs place ≡ Some x → p x ≡ true
-passes_there p xs place x at found =
-    let facts = position-Some p xs place x at in
-    let is = same_Some _ _ (sym (slice_get-get_or xs place x facts.0) ∙ found) in
-    rw is at facts.1
 
 -- the question that comes next has work
 pub next_is_workable : (pool : PoolView) (place : ℕ) (seat : QuestionState)
@@ -154,18 +142,6 @@ may_take_back pool ticket seat sound own epoch found =
 
 -- ---- what the calls leave
 
--- no place of a list passes
-pub none_passes : {X : Type 0} (p : X → Bool) (xs : List X) → position p xs ≡ None
-    → list_any p xs ≡ false
-none_passes p xs none = list_any_none p xs (λ k d within. fails_before_first p xs k d
-    (elim (cases_lt (position_or_len p xs) (length xs)) as (λ _. k < position_or_len p xs) [
-      | inl inside ↦ absurd (none-some (position_or_len p xs)
-          (sym none ∙ cond-true (nat_lt (position_or_len p xs) (length xs))
-          (Some (position_or_len p xs)) None
-          (lt-ltb (position_or_len p xs) (length xs) inside)))
-      | inr past ↦ omega arith
-    ]))
-
 -- where no question comes next there is no work
 pub no_next : (pool : PoolView) → next_place pool ≡ None → has_work pool ≡ false
 no_next pool none =
@@ -208,6 +184,7 @@ lent_after pool ticket seat new loans kept next found number lends epoch season 
     after = rw (is, lends.same, ← lends.is) refl;
   };
   next = next;
+  first = lends.first;
 }
 
 -- a ticket of an earlier epoch came home
@@ -268,13 +245,3 @@ pub present_question : (pool : PoolView) (ticket : Ticket) (seat : QuestionState
 present_question pool ticket seat present found =
     ap (λ (s : QuestionState). s.question) (same_Some seat present.seat (sym found ∙ present.found))
     ∙ sym present.question
-
--- what an element says of its place
-pub found_at : {X : Type 0} (xs : List X) (i : ℕ) (x : X) → i < length xs → x ≡ get_or xs i x
-    → slice_get xs i ≡ Some x
-found_at xs i x within is = slice_get_read xs (length xs) i x refl within is
-
--- a list in which an element was written over itself is as it was
-pub set_again : {X : Type 0} (xs : List X) (i : ℕ) (x y : X) → x ≡ get_or xs i x → y ≡ x
-    → set xs i y ≡ xs
-set_again xs i x y is same = ap (set xs i) (same ∙ is) ∙ set-get_or xs i x

@@ -13,9 +13,8 @@ use Rattle.league_core.specs.declared.sheet.Sheet.{Sheet}
 use Rattle.branch_pool.specs.declared.question_state.QuestionState.{QuestionState}
 use Rattle.branch_pool.specs.inside.States.{is_workable}
 use Rattle.branch_pool.specs.inside.Views.{HasWorkFrom}
-use Rattle.branch_pool.proofs.SlotLemmas.{slice_get-set_other}
-use Rattle.branch_pool.proofs.CallLemmas.{none_passes}
-use Rattle.branch_pool.proofs.NextLemmas.{skipped_from}
+use Rattle.league_core.proofs.plain.Slots.{slice_get-set_other}
+use Rattle.league_core.proofs.plain.Places.{none_passes, skipped_from}
 
 -- nothing is said of the first place
 pub work_from_start : (sheet : Sheet) (seats : List QuestionState) → HasWorkFrom sheet seats 0

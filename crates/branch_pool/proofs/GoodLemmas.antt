@@ -1,7 +1,6 @@
 -- What the type of pools keeps means that a pool is good, and that what is lent is fit for work.
-use Rattle.std.proofs.Common.{◌≡◌, ℕ, suc, true, List, [], ◌∷◌, length}
-use Rattle.std.proofs.Common.{map}
-use Rattle.std.proofs.Common.{Some, IsTrue, refl, sym, ap, ◌∙◌, subst, arith, get_or}
+use Rattle.std.proofs.Common.{◌≡◌, ℕ, suc, true, List, [], ◌∷◌, length, map, Some, IsTrue, refl}
+use Rattle.std.proofs.Common.{sym, ap, ◌∙◌, subst, arith, get_or}
 use Rattle.std.specs.List.{slice_get, All}
 use Rattle.std.specs.Option.{option_map}
 use Rattle.std.proofs.lemmas.Option.{slice_get-map, slice_get-get_or}
@@ -32,7 +31,7 @@ use Rattle.branch_pool.specs.inside.Goodness.{IsGoodNode, IsGoodSeat, IsSoundPoo
 use Rattle.branch_pool.specs.inside.Goodness.{AreLeavesRefuted, IsExampleTrue, AreUnitsTrue, IsGood}
 use Rattle.branch_pool.specs.inside.QuestionStates.{MayBeCarried}
 use Rattle.branch_pool.specs.inside.Calls.{IsFit}
-use Rattle.branch_pool.proofs.SlotLemmas.{All-at}
+use Rattle.league_core.proofs.plain.Slots.{All-at}
 
 -- the splits of a good question are proper
 pub seat_proper : (sheet : Sheet) (season : Results) (seat : QuestionState)

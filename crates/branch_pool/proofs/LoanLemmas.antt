@@ -1,7 +1,6 @@
 -- What is lent and what is out agree, whatever is taken, given back, or left behind by a change.
-use Rattle.std.proofs.Common.{◌≡◌, ◌≢◌, ℕ, ◌<◌, ◌≤◌, ◌==◌, List}
-use Rattle.std.proofs.Common.{[], ◌∷◌, length, Option, Some, None, refl, sym, ap, ◌∙◌, set}
-use Rattle.std.proofs.Common.{inl, inr, arith, get_or-set_other}
+use Rattle.std.proofs.Common.{◌≡◌, ◌≢◌, ℕ, ◌<◌, ◌≤◌, ◌==◌, List, [], ◌∷◌, length, Option, Some}
+use Rattle.std.proofs.Common.{None, refl, sym, ap, ◌∙◌, set, inl, inr, arith, get_or-set_other}
 use Rattle.std.specs.Prelude.{IfSome}
 use Rattle.std.specs.List.{slice_get, All}
 use Rattle.std.proofs.lemmas.Bool.{cases_eq, eq-eqb, ne_eqb, and_right}
@@ -15,7 +14,8 @@ use Rattle.branch_pool.specs.declared.question_state.Loan.{Loan}
 use Rattle.branch_pool.specs.inside.States.{loan_at, with_loan}
 use Rattle.branch_pool.specs.inside.Goodness.{zones_due, IsGoodLoan}
 use Rattle.branch_pool.proofs.SlotLemmas.{loan_at-with_same, loan_at-with_other, loan_at-home_same}
-use Rattle.branch_pool.proofs.SlotLemmas.{slice_get-set_same, slice_get-set_other, loan_meets}
+use Rattle.branch_pool.proofs.SlotLemmas.{loan_meets}
+use Rattle.league_core.proofs.plain.Slots.{slice_get-set_same, slice_get-set_other}
 
 -- ---- what is due
 

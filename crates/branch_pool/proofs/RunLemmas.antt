@@ -1,13 +1,12 @@
 -- Lists of steps keep a pool sound; a turn of work leaves less to do; and where nothing is left,
 -- each question is answered.
-use Rattle.std.proofs.Common.{◌≡◌, ◌≢◌, ℕ, zero, suc, ◌+◌, ◌-◌, ◌<◌, ◌≤◌, ◌==◌, Bool, true}
-use Rattle.std.proofs.Common.{false, nat_lt, cond, List, [], ◌∷◌, length, Option, Some, None}
-use Rattle.std.proofs.Common.{refl, sym, ap, ◌∙◌, set, subst, inl, inr, arith, zero-add}
+use Rattle.std.proofs.Common.{◌≡◌, ◌≢◌, ℕ, zero, suc, ◌+◌, ◌-◌, ◌<◌, ◌≤◌, ◌==◌, Bool, true, false}
+use Rattle.std.proofs.Common.{nat_lt, cond, List, [], ◌∷◌, length, Option, Some, None, refl, sym}
+use Rattle.std.proofs.Common.{ap, ◌∙◌, set, subst, inl, inr, arith, zero-add}
 use Rattle.std.specs.Prelude.{sum_by, is_some, is_none}
-use Rattle.std.specs.List.{slice_get, All, list_any}
+use Rattle.std.specs.List.{slice_get, All}
 use Rattle.std.specs.Option.{option_map}
-use Rattle.std.proofs.lemmas.Bool.{false≢true, both_ways, cases_Bool, or_parts}
-use Rattle.std.proofs.lemmas.Bool.{and_from, lt-ltb, and_parts}
+use Rattle.std.proofs.lemmas.Bool.{false≢true, both_ways, cases_Bool, and_from, lt-ltb, and_parts}
 use Rattle.std.proofs.lemmas.Bool.{eqb-false}
 use Rattle.std.proofs.lemmas.Option.{same_Some, none-some, get_or_from_slice_get, slice_get_within}
 use Rattle.std.proofs.lemmas.List.Sums.{sum_by-cons, sum_by-set}
@@ -34,12 +33,11 @@ use Rattle.branch_pool.specs.inside.Calls.{pool_answer, answer_of}
 use Rattle.branch_pool.specs.inside.Runs.{Step, take_step, give_step, change_step, start_step}
 use Rattle.branch_pool.specs.inside.Runs.{shut_step, recall_step, MakesStep, Move, AreSteps}
 use Rattle.branch_pool.specs.inside.Runs.{pool_after, IsWorked, WorksNext, seat_left, work_left}
-use Rattle.branch_pool.proofs.SlotLemmas.{All-at, set_twice, slice_get-set_same}
 use Rattle.branch_pool.proofs.QuestionStateLemmas.{workable_within}
 use Rattle.branch_pool.proofs.GoodLemmas.{sound_is_good}
 use Rattle.branch_pool.proofs.StepLemmas.{begun_sound, taken_sound, given_sound, kept_sound}
-use Rattle.branch_pool.proofs.StepLemmas.{changed_sound}
-use Rattle.branch_pool.proofs.StepLemmas.{opened_sound, shut_sound, recalled_sound}
+use Rattle.branch_pool.proofs.StepLemmas.{changed_sound, opened_sound, shut_sound, recalled_sound}
+use Rattle.league_core.proofs.plain.Slots.{All-at, set_twice, slice_get-set_same, none_at}
 
 -- ---- steps
 
@@ -175,15 +173,6 @@ nothing_out (None ∷ loans) (suc number) none =
 nothing_out (Some loan ∷ loans) number none =
     let some = sum_by-cons (λ (out : Option Loan). cond (is_some out) 1 0) (Some loan) loans in
     absurd (omega (arith, some, none))
-
--- where no element passes, the one at a place does not
-none_at : {X : Type 0} (p : X → Bool) (xs : List X) (i : ℕ) (x : X) → list_any p xs ≡ false
-    → slice_get xs i ≡ Some x → p x ≡ false
-none_at p [] i x none found = absurd (none-some x found)
-none_at p (first ∷ xs) zero x none found =
-    ap p (sym (same_Some first x found)) ∙ (or_parts (p first) (list_any p xs) none).0
-none_at p (first ∷ xs) (suc i) x none found =
-    none_at p xs i x (or_parts (p first) (list_any p xs) none).1 found
 
 -- where nothing is out and there is no work, no question is not answered yet
 pub no_work_answers : (pool : PoolView) (place : ℕ) → IsSoundPool pool → out_count pool.loans ≡ 0

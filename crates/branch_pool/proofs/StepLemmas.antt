@@ -1,8 +1,6 @@
 -- Each step keeps all that the type of pools keeps.
-use Rattle.std.proofs.Common.{◌≡◌, ℕ, zero, suc, ◌<◌, ◌≤◌, List, [], ◌∷◌, ◌++◌}
-use Rattle.std.proofs.Common.{length, map}
-use Rattle.std.proofs.Common.{Option, Some, None, refl, sym, ap, ◌∙◌, set, subst, arith}
-use Rattle.std.proofs.Common.{inl, inr}
+use Rattle.std.proofs.Common.{◌≡◌, ℕ, zero, suc, ◌<◌, ◌≤◌, List, [], ◌∷◌, ◌++◌, length, map, Option}
+use Rattle.std.proofs.Common.{Some, None, refl, sym, ap, ◌∙◌, set, subst, arith, inl, inr}
 use Rattle.std.proofs.Common.{length-set}
 use Rattle.std.specs.Prelude.{IfSome}
 use Rattle.std.specs.List.{slice_get, All}
@@ -39,12 +37,13 @@ use Rattle.branch_pool.specs.inside.Steps.{ComesHome, IsPresent, Gives, leaf_aft
 use Rattle.branch_pool.specs.inside.Steps.{seat_after, pool_changed, seat_changed, pool_opened}
 use Rattle.branch_pool.specs.inside.Steps.{pool_shut, pool_recalled, seat_recalled}
 use Rattle.branch_pool.specs.inside.Goodness.{IsSoundPool, IsGoodSeat, IsGoodLoan}
-use Rattle.branch_pool.proofs.SlotLemmas.{loan_at-free, free_number-le, All-with_loan, All-at}
+use Rattle.branch_pool.proofs.SlotLemmas.{loan_at-free, free_number-le, All-with_loan}
 use Rattle.branch_pool.proofs.QuestionStateLemmas.{seat_lent_good, seat_after_good}
 use Rattle.branch_pool.proofs.QuestionStateLemmas.{seat_recalled_good, new_seat_good}
 use Rattle.branch_pool.proofs.QuestionStateLemmas.{leaf_lends_nothing}
 use Rattle.branch_pool.proofs.LoanLemmas.{Agree-lent, Agree-given, Agree-home, Agree-left}
 use Rattle.branch_pool.proofs.CarriedLemmas.{seat_changed_good}
+use Rattle.league_core.proofs.plain.Slots.{All-at}
 
 -- ---- lists of seats
 

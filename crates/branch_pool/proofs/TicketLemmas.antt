@@ -1,8 +1,7 @@
 -- Tickets of a pool: what is taken comes with one, and it stays one over the steps that leave its
 -- number out.
-use Rattle.std.proofs.Common.{◌≡◌, ◌≢◌, ◌<◌, ◌≤◌, inl, inr, List, [], ◌∷◌, ◌++◌, length}
-use Rattle.std.proofs.Common.{Option, Some, None}
-use Rattle.std.proofs.Common.{sym, ap, ◌∙◌, subst, arith, get_or, get_or-set_other}
+use Rattle.std.proofs.Common.{◌≡◌, ◌≢◌, ◌<◌, ◌≤◌, inl, inr, List, [], ◌∷◌, ◌++◌, length, Option}
+use Rattle.std.proofs.Common.{Some, None, sym, ap, ◌∙◌, subst, arith, get_or, get_or-set_other}
 use Rattle.std.specs.List.{slice_get}
 use Rattle.std.proofs.lemmas.Option.{same_Some, none-some, slice_get-get_or}
 use Rattle.std.proofs.lemmas.List.{length-append}
@@ -15,19 +14,19 @@ use Rattle.branch_pool.specs.declared.question_state.Loan.{Loan}
 use Rattle.branch_pool.specs.declared.ticket.Ticket.{Ticket}
 use Rattle.branch_pool.specs.declared.ticket.Gave.{Gave}
 use Rattle.branch_pool.specs.declared.ticket.Gave.TheVariants.{Kept, Stale}
-use Rattle.branch_pool.specs.inside.States.{PoolView, loan_at}
-use Rattle.branch_pool.specs.inside.States.{present_epoch}
+use Rattle.branch_pool.specs.inside.States.{PoolView, loan_at, present_epoch}
 use Rattle.branch_pool.specs.inside.Steps.{TakesLeaf, loan_of, seat_lent, IsPresent, IsOwnTicket}
 use Rattle.branch_pool.specs.inside.Steps.{MayBeGiven, Gives}
 use Rattle.branch_pool.specs.inside.Goodness.{IsSoundPool}
 use Rattle.branch_pool.specs.inside.Runs.{Step, take_step, give_step, change_step, start_step}
 use Rattle.branch_pool.specs.inside.Runs.{shut_step, recall_step, MakesStep, LeavesOut}
 use Rattle.branch_pool.proofs.SlotLemmas.{loan_at-free, free_number-le, loan_at-with_same}
-use Rattle.branch_pool.proofs.SlotLemmas.{loan_at-with_other, slice_get-set_same}
+use Rattle.branch_pool.proofs.SlotLemmas.{loan_at-with_other}
 use Rattle.branch_pool.proofs.GoodLemmas.{asked_there}
 use Rattle.branch_pool.proofs.CallLemmas.{out_is_good, present_is}
 use Rattle.branch_pool.proofs.StepLemmas.{given_sound, taken_sound}
 use Rattle.branch_pool.proofs.RunLemmas.{step_sound}
+use Rattle.league_core.proofs.plain.Slots.{slice_get-set_same}
 
 -- ---- take
 

@@ -1,7 +1,6 @@
 -- A turn of work in a leaf's place is a take and then a give.
-use Rattle.std.proofs.Common.{◌≡◌, ℕ, zero, suc, ◌+◌, ◌<◌, ◌≤◌, List, [], ◌∷◌, ◌++◌}
-use Rattle.std.proofs.Common.{length}
-use Rattle.std.proofs.Common.{Option, Some, None, refl, sym, ap, ◌∙◌, set, arith, cond}
+use Rattle.std.proofs.Common.{◌≡◌, ℕ, zero, suc, ◌+◌, ◌<◌, ◌≤◌, List, [], ◌∷◌, ◌++◌, length, Option}
+use Rattle.std.proofs.Common.{Some, None, refl, sym, ap, ◌∙◌, set, arith, cond}
 use Rattle.std.specs.Prelude.{is_some}
 use Rattle.std.specs.List.{slice_get}
 use Rattle.std.proofs.lemmas.List.Sums.{sum_by-cons}
@@ -22,9 +21,9 @@ use Rattle.branch_pool.specs.inside.QuestionStates.{WorksSeat, with_slot}
 use Rattle.branch_pool.specs.inside.Goodness.{IsSoundPool}
 use Rattle.branch_pool.specs.inside.Calls.{next_place}
 use Rattle.branch_pool.specs.inside.Runs.{IsWorked, WorksNext, IsSameButSeats}
-use Rattle.branch_pool.proofs.SlotLemmas.{free_number-le, loan_at-with_same, set_twice}
-use Rattle.branch_pool.proofs.SlotLemmas.{slice_get-set_same}
+use Rattle.branch_pool.proofs.SlotLemmas.{free_number-le, loan_at-with_same}
 use Rattle.branch_pool.proofs.CallLemmas.{found_may_be_given, next_is_workable}
+use Rattle.league_core.proofs.plain.Slots.{set_twice, slice_get-set_same}
 
 -- ---- places for numbers
 
@@ -88,7 +87,7 @@ worked_after pool place seat new loans sound next found works is = record {
   done = done;
   between = between;
   worked = done_is_worked ticket.piece works.finding;
-  taken = record { takes = taken; next = next };
+  taken = record { takes = taken; next = next; first = works.first };
   given = found_may_be_given between ticket (Some works.finding) works.found;
   kept = record {
     own = own;

@@ -83,8 +83,8 @@ impl QuestionState {
         self.is_workable(sheet) && self.lent == 0
     }
 
-    /// Lends an open leaf under a number, and returns its zone twice: one for who works on it, one
-    /// for who waits for it. If memory runs out, the question is as before.
+    /// Lends the first open leaf under a number, and returns its zone twice: one for who works on
+    /// it, one for who waits for it. If memory runs out, the question is as before.
     #[tactic(auto, using(crate::proofs::QuestionStateLemmas::lent_once))]
     pub fn lend(&mut self, alloc: Global, number: u64) -> Result<(Zone, Zone), OutOfMemory>
         requires open_leaf { has_open self.old.tree ≡ true }
@@ -141,7 +141,8 @@ impl QuestionState {
         }
     }
 
-    /// Solves an open leaf in place, under a number. If memory runs out, the question is as before.
+    /// Solves the first open leaf in place, under a number. If memory runs out, the question is as
+    /// before.
     pub fn work<W: Solver>(&mut self, number: u64, worker: &mut W) -> Result<(), OutOfMemory>
         requires may_lend { MayLend number self.old }
         requires good { IsGoodSeat (W.sheet worker.old) (W.season worker.old) self.old }

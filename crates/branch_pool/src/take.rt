@@ -13,9 +13,9 @@ use league_core::{OutOfMemory, Season};
 use reason_core::Piece;
 
 impl Pool {
-    /// Lends an open leaf of the question that comes next: questions go in order, one of which
-    /// nothing is out before one of which something is. It takes the room that `give` will need; if
-    /// memory runs out, the pool is as before.
+    /// Lends the leaf that comes next: questions go in order, those of which nothing is lent before
+    /// those of which something is, and the open leaves of a question depth first, the yes half
+    /// first. It takes the room that `give` will need; if memory runs out, the pool is as before.
     pub fn take(&mut self) -> Took
         ensures taking { Taking self.old result self.new }
         ensures fit { IsFitIfLent self.new result }
@@ -58,7 +58,8 @@ impl Pool {
         self.is_open || self.out() > 0
     }
 
-    // Lends a leaf of the question at a place, with the spare season if that is the pool's.
+    // Lends the first open leaf of the question at a place, with the spare season if that is the
+    // pool's.
     fn lend_next(&mut self, place: u16, spare: &mut Option<Season>) -> Result<Ticket, OutOfMemory>
         requires next { next_place self.old ≡ Some place }
         ensures ok { IfOk result (λ ticket. LendsNext self.old ticket self.new) }
@@ -84,7 +85,7 @@ impl Pool {
         }
     }
 
-    // Lends a leaf of the question at a place with this season, and writes it down.
+    // Lends that leaf with this season, and writes it down.
     fn lend_at(&mut self, place: u16, season: &mut Option<Season>) -> Result<Ticket, OutOfMemory>
         requires next { next_place self.old ≡ Some place }
         requires season { season.old ≡ Some self.old.season }

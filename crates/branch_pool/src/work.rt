@@ -12,9 +12,9 @@ use league_core::OutOfMemory;
 use reason_core::Solver;
 
 impl Pool {
-    /// One turn of work without a ticket: an open leaf of the question from which `take` would lend
-    /// is solved in its place, and what was found is put where `give` would put it. The worker is
-    /// one for the pool's sheet and season. If memory runs out, the pool is as before.
+    /// One turn of work without a ticket: the leaf that `take` would lend is solved in its place,
+    /// and what was found is put where `give` would put it. The worker is one for the pool's sheet
+    /// and season. If memory runs out, the pool is as before.
     pub fn work_next<W: Solver>(&mut self, worker: &mut W) -> Turn
         requires sheet { W.sheet worker.old ≡ self.old.sheet }
         requires season { W.season worker.old ≡ self.old.season }

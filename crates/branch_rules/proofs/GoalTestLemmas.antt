@@ -1,9 +1,8 @@
 -- Tests of goals, by the ends of the goals that are left.
-use Rattle.std.proofs.Common.{◌≡◌, inl, inr, ◌<◌, ◌≤◌, ℕ, Bool, true, false, List, [], ◌∷◌}
-use Rattle.std.proofs.Common.{Option, Some, None, IfSome, IfNone, IsTrue, length, get_or, refl, sym}
-use Rattle.std.proofs.Common.{subst, ◌∙◌, arith}
-use Rattle.std.proofs.lemmas.Bool.{false≢true, true≢false, cases_Bool, lt-ltb}
-use Rattle.std.proofs.lemmas.Bool.{or_right}
+use Rattle.std.proofs.Common.{◌≡◌, inl, inr, ◌<◌, ◌≤◌, ℕ, Bool, true, false, List, [], ◌∷◌, Option}
+use Rattle.std.proofs.Common.{Some, None, IfSome, IfNone, IsTrue, length, get_or, refl, sym, subst}
+use Rattle.std.proofs.Common.{◌∙◌, arith}
+use Rattle.std.proofs.lemmas.Bool.{false≢true, true≢false, cases_Bool, lt-ltb, or_right}
 use Rattle.league_core.specs.declared.sheet.Sheet.{Sheet}
 use Rattle.league_core.specs.declared.season.Score.{Score}
 use Rattle.league_core.specs.declared.question.Question.{Question}
@@ -17,7 +16,6 @@ use Rattle.league_core.specs.search.Zones.{passes}
 use Rattle.league_core.specs.search.Options.{meets, options_of, options_in, has_score, has_option}
 use Rattle.league_core.specs.search.Options.{has_finish, has_one_score, has_one_outcome, is_single}
 use Rattle.league_core.specs.search.Options.{is_away_win}
-use Rattle.league_core.proofs.PlainLemmas.{list_all-at, all_from}
 use Rattle.league_core.proofs.OptionLemmas.{same_score-itself, has_score-first, all_options}
 use Rattle.league_core.proofs.OptionLemmas.{length-options_from}
 use Rattle.league_core.proofs.LiteralLemmas.{options_at}
@@ -32,6 +30,7 @@ use Rattle.branch_rules.specs.inside.Choices.{IsDivided, IsGoalSplit, options_at
 use Rattle.branch_rules.specs.inside.GoalTests.{DividesByGoals, HasOneAtMost, AreSame}
 use Rattle.example_finish.proofs.UnplayedLemmas.{each_fixture}
 use Rattle.branch_rules.proofs.SplitLemmas.{home_most_is_proper, away_most_is_proper}
+use Rattle.league_core.proofs.plain.Lists.{list_all-at, all_from}
 
 -- ---- what parts the scores of a cell
 

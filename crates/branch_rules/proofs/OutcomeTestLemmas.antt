@@ -1,7 +1,7 @@
 -- Tests of outcomes, by the outcomes that are left.
 use Rattle.std.proofs.Common.{◌≡◌, ◌⊎◌, inl, inr, ◌<◌, ℕ, Bool, true, false, ◌&&◌, ◌||◌, List, []}
-use Rattle.std.proofs.Common.{◌∷◌, Option, Some, None, length}
-use Rattle.std.proofs.Common.{get_or, refl, sym, ap, subst, ◌∙◌, arith}
+use Rattle.std.proofs.Common.{◌∷◌, Option, Some, None, length, get_or, refl, sym, ap, subst, ◌∙◌}
+use Rattle.std.proofs.Common.{arith}
 use Rattle.std.specs.List.{list_any}
 use Rattle.std.proofs.lemmas.Bool.{false≢true, true≢false, or_left, or_right, or_cases, cases_Bool}
 use Rattle.std.proofs.lemmas.Bool.{and_from}
@@ -18,14 +18,11 @@ use Rattle.league_core.specs.search.Options.{has_one_outcome, same_outcome, is_h
 use Rattle.league_core.specs.search.Options.{is_away_win}
 use Rattle.league_core.specs.search.Splits.{are_outcomes_fixed}
 use Rattle.league_core.proofs.OptionLemmas.{same_score-true, has_score-first, all_options}
-use Rattle.league_core.proofs.OptionLemmas.{each_option}
-use Rattle.league_core.proofs.OptionLemmas.{length-options_from}
+use Rattle.league_core.proofs.OptionLemmas.{each_option, length-options_from}
 use Rattle.league_core.proofs.OutcomeLemmas.{outcome_cases, one_of_three, no_won_draw}
-use Rattle.league_core.proofs.OutcomeLemmas.{no_two_winners}
-use Rattle.league_core.proofs.OutcomeLemmas.{no_lost_draw, same_outcome-home, same_outcome-draw}
-use Rattle.league_core.proofs.OutcomeLemmas.{same_outcome-away, same_outcome-itself}
-use Rattle.league_core.proofs.OutcomeLemmas.{same_outcome-joined}
-use Rattle.league_core.proofs.PlainLemmas.{all_from}
+use Rattle.league_core.proofs.OutcomeLemmas.{no_two_winners, no_lost_draw, same_outcome-home}
+use Rattle.league_core.proofs.OutcomeLemmas.{same_outcome-draw, same_outcome-away}
+use Rattle.league_core.proofs.OutcomeLemmas.{same_outcome-itself, same_outcome-joined}
 use Rattle.league_core.proofs.OptionTestLemmas.{any_gives, any_shows}
 use Rattle.league_core.proofs.LiteralLemmas.{options_at}
 use Rattle.score_box.specs.inside.ZoneBoxViews.{ZoneBoxView, HasFinish}
@@ -35,6 +32,7 @@ use Rattle.branch_rules.specs.inside.Choices.{IsOutcomeSplit, options_at_fixture
 use Rattle.branch_rules.specs.inside.Outcomes.{AreOutcomesOf}
 use Rattle.example_finish.proofs.UnplayedLemmas.{each_fixture}
 use Rattle.branch_rules.proofs.SplitLemmas.{home_is_proper, draw_is_proper}
+use Rattle.league_core.proofs.plain.Lists.{all_from}
 
 -- ---- one outcome, or several
 

@@ -1,37 +1,16 @@
 -- If no rival is left unmarked, all are marked.
-use Rattle.std.proofs.Common.{◌≡◌, ℕ, Bool, true, false, not, ◌&&◌, ◌||◌, ◌==◌, nat_lt}
-use Rattle.std.proofs.Common.{inl, inr, List, [], ◌∷◌, length, filter, refl, sym, ap, ◌∙◌}
-use Rattle.std.proofs.Common.{arith}
-use Rattle.std.specs.List.{list_all, range_with_len}
-use Rattle.std.proofs.lemmas.Bool.{false≢true, true≢false, and_parts, and_from}
-use Rattle.std.proofs.lemmas.Bool.{cases_Bool}
-use Rattle.std.proofs.lemmas.Bool.{lt-ltb}
+use Rattle.std.proofs.Common.{◌≡◌, ℕ, Bool, true, false, not, ◌&&◌, ◌||◌, ◌==◌, nat_lt, List, []}
+use Rattle.std.proofs.Common.{length, refl, sym, ap, ◌∙◌, arith}
+use Rattle.std.specs.List.{range_with_len}
+use Rattle.std.proofs.lemmas.Bool.{false≢true, true≢false, lt-ltb}
 use Rattle.league_core.specs.declared.sheet.Sheet.{Sheet}
 use Rattle.league_core.specs.declared.question.Question.{Question}
 use Rattle.league_core.specs.declared.zone.Literal.{Literal}
 use Rattle.league_core.specs.game.Sums.{has_club}
 use Rattle.league_core.specs.search.Zones.{is_marked}
 use Rattle.league_core.specs.search.Splits.{are_all_marked}
-use Rattle.league_core.proofs.ClubLemmas.{all_in_range}
-
--- what all that are kept pass
-all_kept : (test keep : ℕ → Bool) (xs : List ℕ)
-    → list_all (λ x. not (keep x) || test x) xs ≡ true → list_all test (filter keep xs) ≡ true
-all_kept test keep [] all = refl
-all_kept test keep (x ∷ xs) all =
-    let parts = and_parts (not (keep x) || test x) (list_all (λ y. not (keep y) || test y) xs) all
-    in
-    let more = all_kept test keep xs parts.1 in
-    elim (cases_Bool (keep x)) as (λ _. list_all test (filter keep (x ∷ xs)) ≡ true) [
-      | inl kept ↦
-          rw kept (and_from (test x) (list_all test (filter keep xs))
-          (passed (keep x) (test x) kept parts.0) more)
-      | inr dropped ↦ rw dropped more
-    ]
-  where
-    passed : (a b : Bool) → a ≡ true → (not a || b) ≡ true → b ≡ true
-    passed true b is either = either
-    passed false b is either = absurd (false≢true is)
+use Rattle.league_core.proofs.plain.Runs.{all_in_range}
+use Rattle.league_core.proofs.plain.Filters.{list_all-filter}
 
 -- a rival that is a club and not unmarked is marked
 marked_of : (a b c : Bool) → (a && b && not c) ≡ false → a ≡ true → (not b || c) ≡ true
@@ -46,7 +25,7 @@ pub all_are_marked : (sheet : Sheet) (question : Question) (zone : List Literal)
     && not (is_marked zone rival)))
     → found ≡ [] → are_all_marked sheet question zone ≡ true
 all_are_marked sheet question zone found are none =
-    all_kept (is_marked zone) (λ x. not (x == question.club)) (range_with_len 0 (length
+    list_all-filter (is_marked zone) (λ x. not (x == question.club)) (range_with_len 0 (length
     sheet.clubs))
     (all_in_range (λ x. not (not (x == question.club)) || is_marked zone x) 0 (length sheet.clubs)
     (λ x low high.

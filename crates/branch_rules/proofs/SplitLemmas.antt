@@ -1,10 +1,8 @@
 -- When a test of a score splits a zone properly: if some options of its fixture pass it, and some
 -- do not.
-use Rattle.std.proofs.Common.{◌≡◌, ◌<◌, ℕ, Bool, true, false, not, ◌==◌, List}
-use Rattle.std.proofs.Common.{[], inl, inr, length, get_or, refl, ap, subst, ◌∙◌}
-use Rattle.std.proofs.Common.{arith}
-use Rattle.std.proofs.lemmas.Bool.{and_from, or_left, or_right, lt-ltb}
-use Rattle.std.proofs.lemmas.Bool.{ne_eqb, cases_eq}
+use Rattle.std.proofs.Common.{◌≡◌, ◌<◌, ℕ, Bool, true, false, not, ◌==◌, List, [], inl, inr, length}
+use Rattle.std.proofs.Common.{get_or, refl, ap, subst, ◌∙◌, arith}
+use Rattle.std.proofs.lemmas.Bool.{and_from, or_left, or_right, lt-ltb, ne_eqb, cases_eq}
 use Rattle.league_core.specs.declared.sheet.Sheet.{Sheet}
 use Rattle.league_core.specs.declared.season.Score.{Score}
 use Rattle.league_core.specs.declared.question.Question.{Question}
@@ -17,11 +15,11 @@ use Rattle.league_core.specs.search.Zones.{passes, is_on, is_as_said, with_test}
 use Rattle.league_core.specs.search.Options.{meets_literal, options_in, has_score, has_option}
 use Rattle.league_core.specs.search.Options.{has_finish}
 use Rattle.league_core.specs.search.Splits.{have_both_finish, is_proper}
-use Rattle.league_core.proofs.PlainLemmas.{list_all-at, all_from}
 use Rattle.league_core.proofs.OptionLemmas.{length-options_from}
 use Rattle.league_core.proofs.OptionTestLemmas.{has_option-some, first_shown}
 use Rattle.league_core.proofs.LiteralLemmas.{options_at-with}
 use Rattle.branch_rules.specs.inside.Choices.{IsDivided}
+use Rattle.league_core.proofs.plain.Lists.{list_all-at, all_from}
 
 -- the half of a zone in which a score's test is as said has a finish, if some option of its fixture
 -- is as said

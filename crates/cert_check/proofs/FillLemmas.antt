@@ -1,10 +1,8 @@
 -- Everything that is due can be met, as the grammar has it: a leaf for each zone, no goals for each
 -- match that is left, lots in the order of the sheet.
-use Rattle.std.proofs.Common.{◌≡◌, ℕ, zero, suc, true, false, List, [], ◌∷◌, ◌++◌}
-use Rattle.std.proofs.Common.{length, map, Option, None, refl, inl, arith}
+use Rattle.std.proofs.Common.{◌≡◌, ℕ, zero, suc, true, false, List, [], ◌∷◌, ◌++◌, length, map}
+use Rattle.std.proofs.Common.{Option, None, refl, inl, arith}
 use Rattle.std.specs.Prelude.{IsTrue}
-use Rattle.std.specs.Bool.{OnTrue}
-use Rattle.std.proofs.lemmas.Bool.{OnTrue_from, false≢true}
 use Rattle.league_core.specs.declared.season.Score.{Score}
 use Rattle.league_core.specs.declared.question.Claim.TheVariants.{Inside, Outside}
 use Rattle.league_core.specs.declared.question.Question.{Question}
@@ -26,17 +24,13 @@ use Rattle.cert_check.specs.declared.expected.TreeKind.{TreeKind}
 use Rattle.cert_check.specs.declared.expected.TreeKind.TheVariants.{Refutation, Spent}
 use Rattle.cert_check.specs.declared.expected.Tally.{Tally}
 use Rattle.cert_check.specs.ExpectedItems.{Basis, Expected, ask_row, verdict_row, tree_head}
-use Rattle.cert_check.specs.ExpectedItems.{spent_head}
-use Rattle.cert_check.specs.ExpectedItems.{finish_head, both_parts, one_part, nodes, score, lots}
-use Rattle.cert_check.specs.ExpectedItems.{ask_fields, verdict_fields, name_of_club, finish_with}
-use Rattle.cert_check.specs.ExpectedItems.{is_tally_whole}
+use Rattle.cert_check.specs.ExpectedItems.{spent_head, finish_head, both_parts, one_part, nodes}
+use Rattle.cert_check.specs.ExpectedItems.{score, lots, ask_fields, verdict_fields, name_of_club}
+use Rattle.cert_check.specs.ExpectedItems.{finish_with, is_tally_whole}
 use Rattle.cert_check.specs.inside.Grammar.{IsPartFor, AreParts, TreesFit, AreTrees, lines_of_trees}
 use Rattle.cert_check.specs.inside.Grammar.{no_tally, IsExampleFrom, IsRefutationPart, IsSpentPart}
 use Rattle.cert_check.specs.inside.Grammar.{IsExamplePart, tally_after}
-
--- if proofs are not asked for, nothing has to hold
-asked_not : (P : Type 0) → OnTrue false P
-asked_not P = OnTrue_from false P (λ it. absurd (false≢true it))
+use Rattle.league_core.proofs.plain.Options.{OnTrue-false}
 
 -- a refuted leaf
 some_leaf : Tree
@@ -52,7 +46,7 @@ leaves_fit : (basis : Basis) (kind : TreeKind) (question : Question) (zones : Li
 unfolding leaves_for some_leaf
 leaves_fit basis kind question [] = tt
 leaves_fit basis kind question (zone ∷ zones) = (
-  (refl, asked_not (IsTrue (has_reason basis.sheet basis.season question zone Count))),
+  (refl, OnTrue-false (IsTrue (has_reason basis.sheet basis.season question zone Count))),
   leaves_fit basis kind question zones,
 )
 
@@ -64,7 +58,7 @@ some_nodes basis kind question zones tally = (
   (
     leaves_for zones,
     leaves_fit basis kind question zones,
-    asked_not (IsTrue (is_tally_whole basis.sheet.budget kind
+    OnTrue-false (IsTrue (is_tally_whole basis.sheet.budget kind
         (tally_after tally (leaves_for zones)))),
     refl,
   ),
@@ -90,7 +84,7 @@ some_rest basis question ended left =
         drawn.0,
         may_all_end-ended basis.sheet.goal_limit left,
         drawn.1,
-        asked_not (IsTrue (holds_at basis.sheet question (finish_with basis.season (ended ++
+        OnTrue-false (IsTrue (holds_at basis.sheet question (finish_with basis.season (ended ++
             scores))
             drawn.0)),
         refl,
@@ -145,7 +139,8 @@ some_part basis (lots question ended) =
       (
         drawn.0,
         drawn.1,
-        asked_not (IsTrue (holds_at basis.sheet question (finish_with basis.season ended) drawn.0)),
+        OnTrue-false (IsTrue (holds_at basis.sheet question
+            (finish_with basis.season ended) drawn.0)),
         refl,
       ),
     )

@@ -1,15 +1,14 @@
 -- Lines that are kept as bytes and ends: what stands at a position, and what one line more makes.
-use Rattle.std.proofs.Common.{◌≡◌, ◌≤◌, ◌<◌, ℕ, ◌+◌, ◌-◌, suc, zero, true}
-use Rattle.std.proofs.Common.{List, [], ◌∷◌, ◌++◌, length, take, drop, get_or, refl, ap, ◌∙◌}
-use Rattle.std.proofs.Common.{arith}
+use Rattle.std.proofs.Common.{◌≡◌, ◌≤◌, ◌<◌, ℕ, ◌+◌, suc, zero, true, List, [], ◌∷◌, ◌++◌, length}
+use Rattle.std.proofs.Common.{get_or, refl, ap, ◌∙◌, arith}
 use Rattle.std.specs.Prelude.{nat_le, slice_range, ◌==◌}
 use Rattle.std.proofs.lemmas.Bool.{and_parts, and_from}
 use Rattle.std.proofs.lemmas.Bool.Decides.{nat_tests}
-use Rattle.std.proofs.lemmas.List.{drop-append-le, take-append-le, take_all, drop_all, length-drop}
 use Rattle.std.proofs.lemmas.List.{length-append}
 use Rattle.cert_check.specs.declared.line_list.LineEnd.{LineEnd}
 use Rattle.cert_check.specs.LineLists.{NumberedLine, line_number_at, text_at}
 use Rattle.cert_check.specs.inside.LineEnds.{lines_within, are_ends, text_start}
+use Rattle.league_core.proofs.plain.Parts.{slice-before, slice-after}
 
 -- there are as many lines as ends
 pub kept-length : (bytes : List ℕ) (from : ℕ) (ends : List LineEnd)
@@ -82,23 +81,6 @@ ends-more until more number from (it ∷ later) are =
     (are_ends (until + more) it.end (later ++ record { number = number; end = until + more } ∷ []))
     parts.0 (ends-more until more number it.end later parts.1)
 
--- a part of the bytes that stands before those that come behind them
-part-before : (bytes text : List ℕ) (from end : ℕ) → from ≤ end → end ≤ length bytes
-    → slice_range (bytes ++ text) from end ≡ slice_range bytes from end
-part-before bytes text from end before within =
-    ap (take (end - from)) (drop-append-le from bytes text (omega arith))
-    ∙ take-append-le (end - from) (drop from bytes) text
-    (omega (arith, length-drop from bytes))
-
--- the part that was put behind the bytes
-part-behind : (bytes text : List ℕ)
-    → slice_range (bytes ++ text) (length bytes) (length bytes + length text) ≡ text
-part-behind bytes text =
-    let all = drop-append-le (length bytes) bytes text (omega arith) in
-    let none = drop_all (length bytes) bytes (omega arith) in
-    ap (take (length bytes + length text - length bytes)) (all ∙ ap (λ xs. xs ++ text) none)
-    ∙ take_all (length bytes + length text - length bytes) text (omega arith)
-
 -- lines with one more
 pub lines-more : (bytes text : List ℕ) (number from : ℕ) (ends : List LineEnd)
     → are_ends (length bytes) from ends ≡ true
@@ -109,7 +91,7 @@ lines-more bytes text number from [] are =
     let here : from ≡ length bytes = grind (arith, nat_tests) in
     let line : List ℕ → List NumberedLine = λ it. record { number = number; text = it } ∷ [] in
     ap (λ at. line (slice_range (bytes ++ text) at (length bytes + length text))) here
-    ∙ ap line (part-behind bytes text)
+    ∙ ap line (slice-after bytes text)
 lines-more bytes text number from (it ∷ later) are =
     let parts = and_parts (nat_le from it.end) (are_ends (length bytes) it.end later) are in
     let first = parts.0 in
@@ -119,7 +101,7 @@ lines-more bytes text number from (it ∷ later) are =
     ap (λ part. line part
     ∷ lines_within (bytes ++ text) it.end
     (later ++ record { number = number; end = length bytes + length text } ∷ []))
-    (part-before bytes text from it.end before within)
+    (slice-before bytes text from it.end before within)
     ∙ ap (λ more. line (slice_range bytes from it.end) ∷ more)
     (lines-more bytes text number it.end later parts.1)
 

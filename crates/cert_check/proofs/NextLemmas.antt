@@ -1,10 +1,7 @@
 -- Plain facts: what a line that goes on says, and lists of parts that stand one after another.
-use Rattle.std.proofs.Common.{◌≡◌, Bool, true, false, List, [], ◌∷◌, ◌++◌}
-use Rattle.std.proofs.Common.{refl, sym, ap, ◌∙◌, subst}
-use Rattle.std.proofs.Common.{append_assoc, append-nil}
+use Rattle.std.proofs.Common.{◌≡◌, Bool, true, false, List, [], ◌∷◌, ◌++◌, refl, sym, ap, ◌∙◌}
+use Rattle.std.proofs.Common.{subst, append_assoc, append-nil}
 use Rattle.std.specs.Prelude.{if◌then◌else◌}
-use Rattle.std.specs.Bool.{OnTrue}
-use Rattle.std.proofs.lemmas.Bool.{OnTrue_at, OnTrue_from}
 use Rattle.cert_check.specs.declared.token.Token.{Token}
 use Rattle.cert_check.specs.Tokens.{counts}
 use Rattle.cert_check.specs.ExpectedItems.{Basis, Expected, Next, bad, go, after}
@@ -79,8 +76,3 @@ Parted proved basis due tokens =
     (token : Token) × (rest : List Token) × (holds : Bool) × (more : List Expected)
     × (tokens ≡ token ∷ rest) × (after basis due token ≡ go holds more)
     × (proved ≡ true → holds ≡ true) × (counts token ≡ true) × AreParts proved basis more rest
-
--- what holds if a test is true gives what follows from it
-pub OnTrue-weaker : (test : Bool) (P Q : Type 0) → (P → Q) → OnTrue test P → OnTrue test Q
-OnTrue-weaker test P Q follows holds =
-    OnTrue_from test Q (λ it. follows (OnTrue_at {b = test} {P = P} it holds))

@@ -1,7 +1,7 @@
 -- Trees line by line: a node with what is due after it is a tree, and the first line of a tree
 -- leaves due what its other lines are.
-use Rattle.std.proofs.Common.{◌≡◌, ℕ, Bool, true, false, ◌&&◌, ◌||◌, List, [], ◌∷◌, ◌++◌, Option}
-use Rattle.std.proofs.Common.{Some, None, refl, sym, ap, ◌∙◌, subst, append_assoc, arith}
+use Rattle.std.proofs.Common.{◌≡◌, ℕ, Bool, true, false, ◌&&◌, List, [], ◌∷◌, ◌++◌, Option, Some}
+use Rattle.std.proofs.Common.{None, refl, sym, ap, ◌∙◌, subst, append_assoc, arith}
 use Rattle.std.specs.Prelude.{IsTrue}
 use Rattle.std.specs.Bool.{OnTrue}
 use Rattle.std.proofs.Math.Bool.{or-true, or-false}
@@ -23,24 +23,21 @@ use Rattle.cert_check.specs.declared.expected.TreeKind.{TreeKind}
 use Rattle.cert_check.specs.declared.expected.TreeKind.TheVariants.{Refutation, Spent}
 use Rattle.cert_check.specs.declared.expected.Tally.{Tally}
 use Rattle.cert_check.specs.ExpectedItems.{Basis, Expected, nodes, go, node_in, with_fresh}
-use Rattle.cert_check.specs.ExpectedItems.{with_open}
-use Rattle.cert_check.specs.ExpectedItems.{is_tally_whole, after_leaf, after_node}
+use Rattle.cert_check.specs.ExpectedItems.{with_open, is_tally_whole, after_leaf, after_node}
 use Rattle.cert_check.specs.ExpectedItems.{after_node_if, is_reason_for}
 use Rattle.cert_text.specs.TreeLines.{is_test_for}
 use Rattle.cert_check.specs.inside.Grammar.{NodeFits, TreesFit, line_of_node, lines_of_tree}
 use Rattle.cert_check.specs.inside.Grammar.{lines_of_trees, with_tree, tally_after, AreTrees}
 use Rattle.cert_check.specs.inside.Grammar.{AreParts}
 use Rattle.cert_check.proofs.NextLemmas.{go-same, bad-go, go-if, if-go, only_part, as_only_part}
-use Rattle.cert_check.proofs.NextLemmas.{Parted, OnTrue-weaker}
+use Rattle.cert_check.proofs.NextLemmas.{Parted}
+use Rattle.league_core.proofs.plain.Options.{OnTrue-weaker}
+use Rattle.league_core.proofs.plain.TruthValues.{or_assoc}
 
 -- tallies with the same parts are the same
 same_tally : (tally other : Tally) → tally.news ≡ other.news → tally.some_open ≡ other.some_open
     → tally ≡ other
 same_tally tally other news some_open = λ i. record { news = news i; some_open = some_open i }
-
-or_again : (first second third : Bool) → ((first || second) || third) ≡ (first || (second || third))
-or_again true second third = refl
-or_again false second third = refl
 
 -- the tally after a branch is that after its halves
 with_tree-branch : (tally : Tally) (fresh : Bool) (yes_half no_half : Tree) (test : _)
@@ -48,10 +45,10 @@ with_tree-branch : (tally : Tally) (fresh : Bool) (yes_half no_half : Tree) (tes
     ≡ with_tree tally (branch test fresh yes_half no_half)
 with_tree-branch tally true yes_half no_half test =
     same_tally _ _ (omega arith)
-    (or_again tally.some_open (has_open yes_half) (has_open no_half))
+    (or_assoc tally.some_open (has_open yes_half) (has_open no_half))
 with_tree-branch tally false yes_half no_half test =
     same_tally _ _ (omega arith)
-    (or_again tally.some_open (has_open yes_half) (has_open no_half))
+    (or_assoc tally.some_open (has_open yes_half) (has_open no_half))
 
 -- that after a refuted leaf counts it if it is new
 with_tree-refuted : (tally : Tally) (fresh : Bool) (reason : _)

@@ -1,17 +1,12 @@
 -- Parts one after another: what is due is shown piece by piece, or the reading stops.
-use Rattle.std.proofs.Common.{◌≡◌, ◌<◌, ℕ, ◌+◌, List, [], ◌∷◌, ◌++◌, Result, Ok, Err, drop}
-use Rattle.std.proofs.Common.{refl, sym, ap, ◌∙◌, append_assoc, arith}
-use Rattle.std.specs.List.{range_with_len}
-use Rattle.std.proofs.Common.{append-nil, zero-add}
-use Rattle.std.proofs.lemmas.List.{drop_more}
-use Rattle.std.proofs.lemmas.List.FromFn.{length-range_with_len, get_or-range_with_len}
-use Rattle.cert_check.specs.declared.item.Item.{Item}
+use Rattle.std.proofs.Common.{◌≡◌, ℕ, ◌+◌, List, [], ◌∷◌, ◌++◌, Result, Ok, Err, drop, refl, sym}
+use Rattle.std.proofs.Common.{ap, ◌∙◌, append_assoc, arith, append-nil}
+use Rattle.cert_check.specs.declared.item.PartRead.{PartRead}
 use Rattle.cert_check.specs.declared.stop.CheckStopAt.{CheckStopAt}
 use Rattle.cert_check.specs.declared.stop.CheckStopAt.TheVariants as halt
 use Rattle.cert_check.specs.ExpectedItems.{Expected}
 use Rattle.cert_check.specs.Machine.{Ending, ending_of, whole_at}
-use Rattle.cert_check.specs.inside.Calls.{ReportView, ending_from, Goes, AllHalt}
-use Rattle.cert_check.specs.inside.Calls.{GoesAfter}
+use Rattle.cert_check.specs.inside.Calls.{ReportView, ending_from, Goes, AllHalt, GoesAfter}
 use Rattle.cert_check.specs.inside.Calls.{GoesOverAll, Reaches}
 
 -- of two things due the first is shown
@@ -31,7 +26,7 @@ first_shown judged from at first second (Err halt.OutOfMemory) goes later = tt
 
 -- one piece more is shown
 pub reach_on : (judged : ReportView) (from at unsettled : ℕ) (wanted first later : List Expected)
-    (found : Item) → Reaches judged from wanted at (first ++ later) unsettled
+    (found : PartRead) → Reaches judged from wanted at (first ++ later) unsettled
     → GoesOverAll judged at first (Ok found)
     → Reaches judged from wanted found.next later (unsettled + found.unsettled)
 reach_on judged from at unsettled wanted first later found reaches goes = λ dues before.
@@ -81,18 +76,10 @@ all_due judged from wanted ending is =
     ap (λ due. ending_from judged from due 0) (sym (append-nil wanted)) ∙ is [] 0
 
 -- all being shown, the reading ends
-pub all_shown_ends : (judged : ReportView) (from : ℕ) (wanted : List Expected) (found : Item)
+pub all_shown_ends : (judged : ReportView) (from : ℕ) (wanted : List Expected) (found : PartRead)
     → GoesOverAll judged from wanted (Ok found)
     → ending_from judged from wanted 0 ≡ whole_at found.next found.unsettled
 all_shown_ends judged from wanted found goes =
     ap (λ due. ending_from judged from due 0) (sym (append-nil wanted))
     ∙ goes.1 [] 0 ∙ ends_whole judged found.next (0 + found.unsettled)
     ∙ ap (whole_at found.next) (omega arith)
-
--- the clubs from one on
-pub clubs_left : (clubs club : ℕ) → club < clubs
-    → drop club (range_with_len 0 clubs) ≡ club ∷ drop (club + 1) (range_with_len 0 clubs)
-clubs_left clubs club within =
-    drop_more (range_with_len 0 clubs) club 0 (omega (arith, length-range_with_len 0 clubs))
-    ∙ ap (λ it. it ∷ drop (club + 1) (range_with_len 0 clubs))
-    (get_or-range_with_len 0 clubs club 0 within ∙ zero-add club)

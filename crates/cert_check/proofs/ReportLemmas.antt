@@ -1,7 +1,6 @@
 -- Whole reports: what the reading line by line comes to, and what the grammar says of the lines.
-use Rattle.std.proofs.Common.{◌≡◌, ◌<◌, ◌≤◌, ℕ, ◌+◌, Bool, true, false, List, [], ◌∷◌}
-use Rattle.std.proofs.Common.{◌++◌, length, refl, sym, ap, ◌∙◌, subst, inl, inr}
-use Rattle.std.proofs.Common.{arith, append-nil}
+use Rattle.std.proofs.Common.{◌≡◌, ◌<◌, ◌≤◌, ℕ, ◌+◌, Bool, true, false, List, [], ◌∷◌, ◌++◌, length}
+use Rattle.std.proofs.Common.{refl, sym, ap, ◌∙◌, subst, inl, inr, arith, append-nil}
 use Rattle.std.specs.Prelude.{◌⊎◌}
 use Rattle.std.specs.List.{list_all}
 use Rattle.std.proofs.lemmas.Bool.{false≢true, and_parts}
@@ -9,14 +8,15 @@ use Rattle.cert_check.specs.declared.token.Token.{Token}
 use Rattle.cert_check.specs.declared.token.Token.TheVariants.{Blank, Row, Proof, Unknown}
 use Rattle.cert_check.specs.Tokens.{counts, counted_lines}
 use Rattle.cert_check.specs.ExpectedItems.{Basis, Expected, Next, bad, go, after}
-use Rattle.cert_check.specs.Machine.{whole_at, bad_line, no_proof, short, with_unsettled}
-use Rattle.cert_check.specs.Machine.{by_next, ending_of}
+use Rattle.cert_check.specs.Machine.{whole_at, bad_line, no_proof, short, with_unsettled, by_next}
+use Rattle.cert_check.specs.Machine.{ending_of}
 use Rattle.cert_check.specs.inside.Grammar.{AreParts}
 use Rattle.cert_check.specs.inside.Laws.{unsettled_with, LeavesDue, Begins, IsBadLineAt}
 use Rattle.cert_check.specs.inside.Laws.{IsUnprovedAt, AreTooFew}
 use Rattle.cert_check.proofs.NextLemmas.{go-same, bad-go, parts-join, parts-split}
 use Rattle.cert_check.proofs.PartLemmas.{join_part, part_parts}
 use Rattle.cert_check.proofs.FillLemmas.{some_parts}
+use Rattle.league_core.proofs.plain.Numbers.{same_rest}
 
 -- ---- one line
 
@@ -273,10 +273,6 @@ run_comes_to basis before rest tokens dues left at unsettled parts passed =
     ap (λ it. ending_of basis it dues at unsettled) parts
     ∙ passes_on basis before rest dues left at unsettled passed
 
--- the place after a beginning is one alone
-one_place : (at place more : ℕ) → at + more ≡ at + place → place ≡ more
-one_place at place more same = omega arith
-
 -- a list with an item has one
 some_due : (dues : List Expected) (due : Expected) (others : List Expected) → dues ≡ due ∷ others
     → 0 < length dues
@@ -300,7 +296,7 @@ bad_line_is basis tokens dues at unsettled place ending =
         later = it.3;
         left = run.2;
         parts = run.3 ∙ ap (λ behind. run.0 ++ behind) it.4;
-        place = one_place at place (length run.0) (same_bad (sym it.7 ∙ sym found ∙ ending));
+        place = same_rest at place (length run.0) (same_bad (sym it.7 ∙ sym found ∙ ending));
         due = some_due run.2 it.0 it.1 it.5;
         passed = run.4;
         begins =
@@ -387,7 +383,7 @@ no_proof_is basis tokens dues at unsettled place ending =
         left = it.1;
         more = it.2;
         parts = run.3 ∙ ap (λ behind. run.0 ++ behind) it.5;
-        place = one_place at place (length run.0) (same_no (sym it.8 ∙ sym found ∙ ending));
+        place = same_rest at place (length run.0) (same_no (sym it.8 ∙ sym found ∙ ending));
         passed =
             let P : List Expected → Type 0 = λ due_then. LeavesDue basis run.0 dues due_then in
             subst P it.6 run.4;

@@ -1,7 +1,6 @@
 -- A row that csv writes is read back as its fields, also without the line feed that ends it.
-use Rattle.std.proofs.Common.{◌≡◌, ℕ, Bool, true, false, not, ◌&&◌, ◌||◌, ◌==◌, cond}
-use Rattle.std.proofs.Common.{List, [], ◌∷◌, ◌++◌, Option, Some, None, refl, sym, ap, ◌∙◌}
-use Rattle.std.proofs.Common.{append-nil}
+use Rattle.std.proofs.Common.{◌≡◌, ℕ, Bool, true, false, not, ◌&&◌, ◌||◌, ◌==◌, cond, List, [], ◌∷◌}
+use Rattle.std.proofs.Common.{◌++◌, Option, Some, None, refl, sym, ap, ◌∙◌, append-nil}
 use Rattle.std.specs.Prelude.{option_map, option_and_then, is_some}
 use Rattle.std.specs.List.{list_all, list_any}
 use Rattle.std.proofs.lemmas.Bool.{and_parts, and_from, false≢true}
@@ -17,6 +16,7 @@ use Rattle.fixture_sheet.specs.Fields.{has_return}
 use Rattle.cert_check.specs.declared.token.Token.TheVariants.{Row}
 use Rattle.cert_check.specs.Tokens.{token_of, token_of_row, token_of_record, begins_proof}
 use Rattle.cert_check.specs.inside.WrittenReports.{is_within_line, are_within_line}
+use Rattle.league_core.proofs.plain.Lists.{list_all-last}
 
 -- ---- a text without the line feed at its end
 
@@ -37,18 +37,12 @@ not_empty : (rest : List ℕ) → rest ++ 10 ∷ [] ≡ [] → ⊥
 not_empty [] is = false≢true (ap is_empty is)
 not_empty (byte ∷ rest) is = false≢true (ap is_empty is)
 
-pub last_passes : {A : Type 0} (test : A → Bool) (xs : List A) (x : A)
-    → list_all test (xs ++ x ∷ []) ≡ true → test x ≡ true
-last_passes test [] x all = (and_parts (test x) true all).0
-last_passes test (y ∷ xs) x all =
-    last_passes test xs x (and_parts (test y) (list_all test (xs ++ x ∷ [])) all).1
-
 -- no field of a row within a line ends with a line feed
 no_feed_last : (fields : List (List ℕ)) (field : List ℕ) (found : List (List ℕ))
     → fields ++ (field ++ 10 ∷ []) ∷ [] ≡ found → list_all are_within_line found ≡ true → ⊥
 no_feed_last fields field found is within =
-    false≢true (last_passes is_within_line field 10
-    (last_passes are_within_line fields (field ++ 10 ∷ [])
+    false≢true (list_all-last is_within_line field 10
+    (list_all-last are_within_line fields (field ++ 10 ∷ [])
     (ap (list_all are_within_line) is ∙ within)))
 
 -- the end of the text does what the line feed did

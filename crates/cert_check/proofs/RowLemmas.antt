@@ -3,22 +3,13 @@ use Rattle.std.proofs.Common.{◌≡◌, ℕ, Bool, true, false, ◌&&◌, ◌==
 use Rattle.std.proofs.Common.{refl, ap, ◌∙◌, length, codes, decimal, arith}
 use Rattle.std.specs.Prelude.{bytes_eq, if◌then◌else◌}
 use Rattle.std.proofs.lemmas.Bool.{and_parts, and_from, eqb-true}
-use Rattle.std.proofs.lemmas.Slice.Eq.{bytes_eq-Decides}
 use Rattle.fixture_sheet.specs.Fields.{field}
 use Rattle.cert_check.specs.declared.expected.RowWord.{RowWord}
 use Rattle.cert_check.specs.declared.expected.RowWord.TheVariants.{Clinched, Lost, Possible}
 use Rattle.cert_check.specs.declared.expected.RowWord.TheVariants.{Unsettled}
 use Rattle.cert_check.specs.ExpectedItems.{ask_fields, verdict_fields, is_ask_row, is_row_about}
-use Rattle.cert_check.specs.ExpectedItems.{word_named}
-use Rattle.cert_check.specs.ExpectedItems.{word_in_row, text_of_word}
-
--- texts of which the test says so are the same
-bytes_eq-true : (text other : List ℕ) → bytes_eq text other ≡ true → text ≡ other
-bytes_eq-true text other same = (bytes_eq-Decides text other).0 same
-
--- a text is the same as itself
-bytes_eq-itself : (text : List ℕ) → bytes_eq text text ≡ true
-bytes_eq-itself text = (bytes_eq-Decides text text).1 refl
+use Rattle.cert_check.specs.ExpectedItems.{word_named, word_in_row, text_of_word}
+use Rattle.league_core.proofs.plain.Texts.{bytes_eq-itself, bytes_eq-true}
 
 -- two fields
 two_fields : (fields : List (List ℕ)) → length fields ≡ 2

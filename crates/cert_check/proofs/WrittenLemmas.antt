@@ -1,23 +1,21 @@
 -- The bytes of an answer are cut into the lines that were written, and each is read as what it was.
-use Rattle.std.proofs.Common.{◌≡◌, ◌≢◌, inl, inr, ℕ, ◌+◌, ◌-◌, ◌%◌, ◌<◌, ◌^◌, Bool, true}
-use Rattle.std.proofs.Common.{false, not, ◌&&◌, ◌==◌, cond, List, [], ◌∷◌, ◌++◌, length, map, take}
-use Rattle.std.proofs.Common.{Option, Some, None, Ok, refl, sym, ap, subst, ◌∙◌}
-use Rattle.std.proofs.Common.{append_assoc, arith}
-use Rattle.std.specs.Prelude.{codes, decimal}
-use Rattle.std.specs.Prelude.{nat_eq, nat_le, nat_lt, is_ok}
+use Rattle.std.proofs.Common.{◌≡◌, ◌≢◌, inl, inr, ℕ, ◌+◌, ◌-◌, ◌%◌, ◌<◌, ◌^◌, Bool, true, false}
+use Rattle.std.proofs.Common.{not, ◌&&◌, ◌==◌, cond, List, [], ◌∷◌, ◌++◌, length, map, take, Option}
+use Rattle.std.proofs.Common.{Some, None, Ok, refl, sym, ap, subst, ◌∙◌, append_assoc, arith}
+use Rattle.std.specs.Prelude.{codes, decimal, nat_eq, nat_le, nat_lt, is_ok}
 use Rattle.std.specs.List.{list_all, ends_with, flat_map}
 use Rattle.std.proofs.lemmas.Bool.{and_parts, and_from, false≢true, ne_eqb, leb-true}
+use Rattle.std.proofs.lemmas.Bool.{false_from_ne_true}
 use Rattle.std.proofs.lemmas.Fmt.{decimal_by_steps, decimal_nonempty}
 use Rattle.std.proofs.lemmas.Bool.Decides.{Decides-eqb}
 use Rattle.std.proofs.lemmas.Slice.Eq.{ends_is}
 use Rattle.port_core.specs.declared.line.ReadStop.{ReadStop}
 use Rattle.port_core.specs.Lines.{lines_of, text_of_line, onto_first}
 use Rattle.port_core.specs.Contents.{Contents, Position, content_at, contents_by, contents_from}
-use Rattle.port_core.specs.Contents.{is_skipped, line_stop, number_at, position_after}
-use Rattle.port_core.specs.Contents.{with_line, without_mark, without_return}
+use Rattle.port_core.specs.Contents.{is_skipped, line_stop, number_at, position_after, with_line}
+use Rattle.port_core.specs.Contents.{without_mark, without_return}
 use Rattle.csv.specs.Reading.{strip_bom}
-use Rattle.csv.specs.Writing.{default_writer, fields_text, row_body}
-use Rattle.csv.specs.Writing.{is_blank as csv_blank}
+use Rattle.csv.specs.Writing.{default_writer, fields_text, row_body, is_blank as csv_blank}
 use Rattle.fixture_sheet.specs.Fields.{is_blank, with_field, without_padding}
 use Rattle.cert_text.specs.declared.proof_line.ProofLine.{ProofLine}
 use Rattle.cert_text.specs.Lines.{text_of_proof_line, is_printed}
@@ -35,7 +33,8 @@ use Rattle.cert_check.specs.inside.WrittenLines.{IsWritable}
 use Rattle.cert_check.specs.inside.WrittenReports.{is_within_line, are_within_line, written}
 use Rattle.cert_check.specs.inside.WrittenReports.{IsLineRead, AreRead}
 use Rattle.cert_check.proofs.ReadBackLemmas.{token_of-text}
-use Rattle.cert_check.proofs.RowBackLemmas.{last_passes, append_within, body_within, row_back}
+use Rattle.cert_check.proofs.RowBackLemmas.{append_within, body_within, row_back}
+use Rattle.league_core.proofs.plain.Lists.{list_all-last}
 
 -- ---- one line among bytes
 
@@ -69,19 +68,15 @@ text_of_line-body (byte ∷ body) within =
     no_feed true return is = absurd (false≢true is)
     no_feed false return is = refl
 
-never : (b : Bool) → (b ≡ true → ⊥) → b ≡ false
-never true not_so = absurd (not_so refl)
-never false not_so = refl
-
 -- no carriage return is taken off it
 no_return_taken : (body : List ℕ) → are_within_line body ≡ true → without_return body ≡ body
 no_return_taken body within =
     ap (λ b. cond b (take (length body - 1) body) body)
-    (never (ends_with nat_eq body (13 ∷ []))
+    (false_from_ne_true (ends_with nat_eq body (13 ∷ []))
     (λ ends.
     let is = (ends_is Decides-eqb body (13 ∷ [])
     (ends_with nat_eq body (13 ∷ [])) refl).0 ends in
-    false≢true (last_passes is_within_line (take (length body - 1) body) 13
+    false≢true (list_all-last is_within_line (take (length body - 1) body) 13
     (ap are_within_line (sym is) ∙ within))))
 
 content_is : (position : Position) (body : List ℕ) → position.lines ≢ 0

@@ -8,7 +8,7 @@ ghost use Rattle.cert_check.specs.inside.Calls.{GoesOverAll, ChecksPart, ChecksE
 ghost use Rattle.cert_check.specs.Machine.{basis_of};
 ghost use Rattle.cert_check.specs.LineLists.{tokens_of};
 
-use crate::item::Item;
+use crate::item::PartRead;
 use crate::line_list::LineList;
 use crate::report::Report;
 use crate::stop::{Accepted, CheckStop, CheckStopAt};
@@ -58,7 +58,7 @@ fn part_from(
     epoch: u64,
     lines: &LineList,
     from: usize,
-) -> Result<Item, CheckStopAt>
+) -> Result<PartRead, CheckStopAt>
     requires league { IsLeague sheet.now season.now }
     requires room { from ≤ length lines.now }
     ensures { GoesOverAll (record {
@@ -103,7 +103,7 @@ fn row_count(sheet: &Sheet) -> u32
 
 impl<'a> Report<'a> {
     /// The part of one ask: its row, and an item for each line and each club.
-    pub fn part(&self, from: usize) -> Result<Item, CheckStopAt>
+    pub fn part(&self, from: usize) -> Result<PartRead, CheckStopAt>
         requires { from ≤ length self.now.tokens }
         ensures { GoesOverAll self.now from (part_of_ask self.now.basis.sheet) result }
     {
@@ -111,11 +111,11 @@ impl<'a> Report<'a> {
         self.rows(at)
     }
 
-    fn rows(&self, from: usize) -> Result<Item, CheckStopAt>
+    fn rows(&self, from: usize) -> Result<PartRead, CheckStopAt>
         requires { from ≤ length self.now.tokens }
         ensures { GoesOverAll self.now from (rows_of self.now.basis.sheet) result }
     {
-        let mut found = Item {
+        let mut found = PartRead {
             next: from,
             unsettled: 0,
         };
@@ -126,7 +126,7 @@ impl<'a> Report<'a> {
         Ok(found)
     }
 
-    fn line(&self, from: usize, line: u8) -> Result<Item, CheckStopAt>
+    fn line(&self, from: usize, line: u8) -> Result<PartRead, CheckStopAt>
         requires room { from ≤ length self.now.tokens }
         requires line { IsTrue (is_line (length self.now.basis.sheet.clubs) line) }
         ensures goes { GoesOverAll self.now from
@@ -134,7 +134,7 @@ impl<'a> Report<'a> {
         ensures few { IfOk result
             (λ found. found.unsettled ≤ length self.now.basis.sheet.clubs) }
     {
-        let mut found = Item {
+        let mut found = PartRead {
             next: from,
             unsettled: 0,
         };

@@ -64,7 +64,8 @@ impl<'a> Report<'a> {
         }
     }
 
-    fn score_in(&self, token: &Token, fixture: u16) -> Option<Score>
+    /// The score that a line that counts gives to a fixture.
+    pub fn score_in(&self, token: &Token, fixture: u16) -> Option<Score>
         requires { IsTrue (counts token.now) }
         ensures score { (question : Question) (ended left : List (Option Score))
             → fixture ≡ length ended
@@ -110,7 +111,8 @@ impl<'a> Report<'a> {
         }
     }
 
-    fn lots_in(&self, token: &Token) -> Result<Option<Lots>, OutOfMemory>
+    /// The lots that a line that counts gives.
+    pub fn lots_in(&self, token: &Token) -> Result<Option<Lots>, OutOfMemory>
         requires { IsTrue (counts token.now) }
         ensures lots { IfOk result (λ found.
             found ≡ lots_of_token (length self.now.basis.sheet.clubs) token.now) }

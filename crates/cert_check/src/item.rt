@@ -20,23 +20,23 @@ use cert_text::ProofLine;
 use league_core::limits::{MOST_DEDUCTION, MOST_POINTS};
 use league_core::{Claim, Question};
 
-/// An item that was read.
+/// A part of a report that was read: an item, or several.
 #[derive(Clone, Copy)]
-pub struct Item {
+pub struct PartRead {
     /// The position after its last line.
     pub next: usize,
-    /// 1 if its club is unsettled, 0 otherwise.
+    /// How many of its rows are unsettled.
     pub unsettled: u32,
 }
 
-impl Item {
+impl PartRead {
     /// This and a later one together.
-    pub fn and(self, later: Item) -> Item
+    pub fn and(self, later: PartRead) -> PartRead
         requires { self.unsettled + later.unsettled < 2 ^ 32 }
         ensures next { result.next ≡ later.next }
         ensures unsettled { result.unsettled ≡ self.unsettled + later.unsettled }
     {
-        Item {
+        PartRead {
             next: later.next,
             unsettled: self.unsettled + later.unsettled,
         }
@@ -45,7 +45,7 @@ impl Item {
 
 impl<'a> Report<'a> {
     /// The item of a line and a club: its row, and what its word asks for.
-    pub fn item(&self, from: usize, line: u8, club: u8) -> Result<Item, CheckStopAt>
+    pub fn item(&self, from: usize, line: u8, club: u8) -> Result<PartRead, CheckStopAt>
         requires room { from ≤ length self.now.tokens }
         requires in_range { club < length self.now.basis.sheet.clubs }
         requires line { IsTrue (is_line (length self.now.basis.sheet.clubs) line) }
@@ -55,7 +55,7 @@ impl<'a> Report<'a> {
         let (at, word) = self.verdict_row(from, line, club)?;
         let next = self.behind(at, line, club, word)?;
         let unsettled = unsettled_in(word);
-        Ok(Item { next, unsettled })
+        Ok(PartRead { next, unsettled })
     }
 
     fn behind(&self, from: usize, line: u8, club: u8, word: RowWord) -> Result<usize, CheckStopAt>
@@ -197,7 +197,8 @@ fn spent_of(question: Question) -> TreeSpec
     }
 }
 
-fn full_question(club: u8, line: u8, claim: Claim) -> Question
+/// The question whether a club ends on one side of a line, whatever its points.
+pub fn full_question(club: u8, line: u8, claim: Claim) -> Question
     ensures { result ≡ questions.full_question club line claim }
 {
     Question {
@@ -209,8 +210,8 @@ fn full_question(club: u8, line: u8, claim: Claim) -> Question
     }
 }
 
-// Which head of the claim the line is.
-fn head_of(token: &Token, claim: Claim) -> Option<Head>
+/// Which head of the claim a line is.
+pub fn head_of(token: &Token, claim: Claim) -> Option<Head>
     ensures { result ≡ head_of_token claim token.now }
 {
     match token {

@@ -34,7 +34,7 @@ pub use feed::{FeedRead, FeedSoFar, read_feed};
 pub use input_laws::{
     accepted_inputs_tell_truly, written_lines_read_back, written_reports_read_back,
 };
-pub use item::Item;
+pub use item::{PartRead, full_question, head_of};
 pub use laws::{
     accepted_parts_are_proved, proved_parts_are_accepted, proved_rows_are_true,
     shown_answers_are_accepted, stops_are_exact,
@@ -42,6 +42,8 @@ pub use laws::{
 pub use line_list::LineList;
 pub use lines::{LinesStop, ReportLines, read_lines};
 pub use outcome::{CheckFailure, CheckOutcome, ReportFault};
+pub use ranges::{is_reason_for, is_test_for};
 pub use report::Report;
 pub use stop::{Accepted, CheckStop, CheckStopAt};
 pub use token::Token;
+pub use tree::node_of;

@@ -85,6 +85,20 @@ impl<'a> Report<'a> {
         self.root.copy(self.alloc)
     }
 
+    /// The sheet by which the lines are judged.
+    pub fn sheet(&self) -> &Sheet
+        ensures { result.now ≡ self.now.basis.sheet }
+    {
+        self.sheet
+    }
+
+    /// The season by which they are.
+    pub fn season(&self) -> &Season
+        ensures { result.now ≡ self.now.basis.season }
+    {
+        self.season
+    }
+
     /// How many lines there are, with those that are passed over.
     pub fn len(&self) -> usize
         ensures { result ≡ length self.now.tokens }

@@ -65,7 +65,8 @@ impl<'a> Report<'a> {
         }
     }
 
-    fn word_in(&self, token: &Token, line: u8, club: u8) -> Result<Option<RowWord>, OutOfMemory>
+    /// The word of a line that counts, if it is the row of a line and a club.
+    pub fn word_in(&self, token: &Token, line: u8, club: u8) -> Result<Option<RowWord>, OutOfMemory>
         requires counted { IsTrue (counts token.now) }
         requires in_range { club < length self.now.basis.sheet.clubs }
         ensures word { IfOk result (λ word.

@@ -193,7 +193,8 @@ fn is_tally_whole(budget: u32, kind: TreeKind, tally: Tally) -> bool
     }
 }
 
-fn node_of(kind: TreeKind, token: &Token) -> Option<TreeNode>
+/// The node of a tree of this kind that a line stands for.
+pub fn node_of(kind: TreeKind, token: &Token) -> Option<TreeNode>
     ensures { result ≡ node_of_token kind token.now }
 {
     match token {

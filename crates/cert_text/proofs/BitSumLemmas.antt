@@ -1,9 +1,7 @@
 -- The bits of a set, added over its clubs, are the set.
 use Rattle.std.proofs.Common.{◌≡◌, ℕ, zero, suc, ◌+◌, ◌*◌, ◌/◌, ◌%◌, ◌^◌, ◌<◌, ◌≤◌, Bool, true}
-use Rattle.std.proofs.Common.{false}
-use Rattle.std.proofs.Common.{◌&&◌, eqb, cond, List, [], ◌∷◌, filter, Option, Some, None, refl, sym}
-use Rattle.std.proofs.Common.{ap, subst, ◌∙◌}
-use Rattle.std.proofs.Common.{arith, pow-suc, add-one}
+use Rattle.std.proofs.Common.{false, ◌&&◌, eqb, cond, List, [], ◌∷◌, filter, Option, Some, None}
+use Rattle.std.proofs.Common.{refl, sym, ap, subst, ◌∙◌, arith, pow-suc, add-one}
 use Rattle.std.specs.Prelude.{nat_le}
 use Rattle.std.specs.List.{list_all, range_with_len}
 use Rattle.std.specs.Int.{bit_at}
@@ -16,26 +14,12 @@ use Rattle.league_core.specs.game.ClubSets.{clubs_below, clubs_in}
 use Rattle.league_core.specs.search.Reasons.{has_member}
 use Rattle.cert_text.specs.Ranges.{is_club_number}
 use Rattle.cert_text.specs.Places.{are_rising_from, bits_at, set_listed}
+use Rattle.league_core.proofs.plain.Numbers.{halves, bit_times}
 
 bits_at-cond : (b : Bool) (club : ℕ) (clubs : List ℕ)
     → bits_at (cond b (club ∷ clubs) clubs) ≡ cond b (2 ^ club) 0 + bits_at clubs
 bits_at-cond true club clubs = refl
 bits_at-cond false club clubs = omega arith
-
-one_or_none : (bit power : ℕ) → bit < 2 → cond (eqb bit 1) power 0 ≡ bit * power
-one_or_none zero power low = omega arith
-one_or_none (suc zero) power low = omega arith
-one_or_none (suc (suc bit)) power low = absurd (omega arith)
-
-halves : (q power : ℕ) → q % 2 * power + q / 2 * (power * 2) ≡ q * power
-halves q power =
-    together (q / 2) (q % 2) power ∙ ap (λ n. n * power) whole
-  where
-    together : (a b power : ℕ) → b * power + a * (power * 2) ≡ (a * 2 + b) * power
-    together a b power = omega arith
-
-    whole : q / 2 * 2 + q % 2 ≡ q
-    whole = omega arith
 
 -- from a place on
 bits_at-run : (bits width from count : ℕ) → from + count ≡ width → bits < 2 ^ width
@@ -56,7 +40,7 @@ bits_at-run bits width from (suc count) ends fits =
     let half : bits / 2 ^ (from + 1) ≡ q / 2 = sym (shr-shr bits from 1) in
     let double : 2 ^ (from + 1) ≡ 2 ^ from * 2 = ap (λ n. 2 ^ n) (add-one from) ∙ pow-suc 2 from in
     bits_at-cond (eqb (bit_at bits from) 1) from rest
-    ∙ ap (λ n. n + bits_at rest) (one_or_none (bit_at bits from) (2 ^ from) (bit_at-lt bits from))
+    ∙ ap (λ n. n + bits_at rest) (bit_times (bit_at bits from) (2 ^ from) (bit_at-lt bits from))
     ∙ ap (λ n. q % 2 * 2 ^ from + n)
     (later ∙ ap (λ n. n * 2 ^ (from + 1)) half ∙ ap (λ n. q / 2 * n) double)
     ∙ halves q (2 ^ from)

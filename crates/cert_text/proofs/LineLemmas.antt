@@ -21,6 +21,7 @@ use Rattle.cert_text.specs.Lines.{Part, word, whole, points, clubs, number_in_te
 use Rattle.cert_text.specs.Lines.{test_parts, reason_parts, parts_of, array_text, part_text}
 use Rattle.cert_text.specs.Lines.{text_of_proof_line}
 use Rattle.cert_text.specs.inside.Values.{part_value, parts_value}
+use Rattle.league_core.proofs.plain.Lists.{list_all-true}
 
 -- a byte that stands for itself in a JSON string
 abbrev pub is_plain : ℕ → Bool
@@ -71,10 +72,6 @@ array_text-known value text known each (x ∷ xs) all =
     ap (λ t. 91 ∷ (t ++ items_text true (items_of (map value xs)))) (each x parts.0)
     ∙ ap (λ t. 91 ∷ (text x ++ t)) (items_text-known value text known each xs parts.1)
     ∙ ap (λ t. 91 ∷ t) (sym (join-more (text x) (map text xs)))
-
-list_all-true : {X : Type 0} (xs : List X) → list_all (λ x. true) xs ≡ true
-list_all-true [] = refl
-list_all-true (x ∷ xs) = list_all-true xs
 
 -- a part whose word needs no escape
 abbrev pub is_plain_part : Part → Bool

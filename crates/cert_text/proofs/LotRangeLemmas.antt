@@ -1,15 +1,16 @@
 -- Lots name clubs of the sheet alone: a list with each of so many clubs, and no longer, has no room
 -- for another.
-use Rattle.std.proofs.Common.{◌≡◌, ℕ, ◌<◌, ◌≤◌, true, ◌||◌, ◌==◌, nat_lt, List, []}
-use Rattle.std.proofs.Common.{◌∷◌, ◌++◌, length, length-append, append_assoc, refl, sym, ap}
-use Rattle.std.proofs.Common.{◌∙◌, inl, inr, arith}
+use Rattle.std.proofs.Common.{◌≡◌, ℕ, ◌<◌, ◌≤◌, true, ◌||◌, ◌==◌, nat_lt, List, [], ◌∷◌, ◌++◌}
+use Rattle.std.proofs.Common.{length, length-append, append_assoc, refl, sym, ap, ◌∙◌, inl, inr}
+use Rattle.std.proofs.Common.{arith}
 use Rattle.std.specs.List.{list_all, range_with_len}
-use Rattle.std.proofs.lemmas.Bool.{and_parts, and_from, eqb-true}
-use Rattle.std.proofs.lemmas.Bool.{ne_eqb, lt-ltb, ltb-true, cases_lt}
+use Rattle.std.proofs.lemmas.Bool.{and_parts, and_from, eqb-true, ne_eqb, lt-ltb, ltb-true}
+use Rattle.std.proofs.lemmas.Bool.{cases_lt}
 use Rattle.std.proofs.lemmas.Map.Steps.{le-length_from_below}
 use Rattle.league_core.specs.game.Sums.{has_club}
 use Rattle.league_core.specs.game.Ranking.{are_lots}
-use Rattle.league_core.proofs.ClubLemmas.{has_club-append, each_in_range, any_from_has}
+use Rattle.league_core.proofs.ClubLemmas.{has_club-append, any_from_has}
+use Rattle.league_core.proofs.plain.Runs.{each_in_range}
 
 -- without an entry past the clubs the list would be too short for them
 drawn_below : (clubs : ℕ) (done later : List ℕ) (drawn : ℕ)

@@ -1,10 +1,9 @@
 -- Lines by their own texts: what is read of them makes the line.
-use Rattle.std.proofs.Common.{◌≡◌, ◌≤◌, ◌-◌, ℕ, true, ◌&&◌}
-use Rattle.std.proofs.Common.{List, [], ◌∷◌, ◌++◌, map, Some, option_map, refl, sym}
-use Rattle.std.proofs.Common.{ap, ◌∙◌, arith, append_assoc, codes, decimal}
-use Rattle.std.specs.Prelude.{nat_lt, nat_le, option_and_then}
+use Rattle.std.proofs.Common.{◌≡◌, ◌≤◌, ◌-◌, ℕ, true, ◌&&◌, List, [], ◌∷◌, ◌++◌, map, Some}
+use Rattle.std.proofs.Common.{option_map, refl, sym, ap, ◌∙◌, arith, append_assoc, codes, decimal}
+use Rattle.std.specs.Prelude.{nat_le, option_and_then}
 use Rattle.std.specs.List.{list_all, join_with_byte}
-use Rattle.std.proofs.lemmas.Bool.{and_from, lt-ltb, le-leb}
+use Rattle.std.proofs.lemmas.Bool.{and_from, le-leb}
 use Rattle.serde_json.specs.Data.{number, unsigned}
 use Rattle.serde_json.specs.View.{items_of}
 use Rattle.league_core.specs.declared.club_set.ClubSet.{ClubSet}
@@ -23,8 +22,9 @@ use Rattle.cert_text.specs.inside.PlainForms.{IsSetAtEnd, IsTestAtEnd, IsReasonA
 use Rattle.cert_text.specs.inside.PlainForms.{IsNumberBefore}
 use Rattle.cert_text.specs.inside.Widths.{is_line_kept}
 use Rattle.cert_text.proofs.FormLemmas.{clubs_back}
-use Rattle.cert_text.proofs.PrintedLemmas.{alone}
 use Rattle.cert_text.proofs.ReadBackLemmas.{line_in-parts, line_in-written}
+use Rattle.league_core.proofs.plain.TruthValues.{true_and_true}
+use Rattle.league_core.proofs.plain.Numbers.{one_less_below}
 
 -- the rest of an array that begins with a name is the array's
 text_of_named : (name : List ℕ) (parts : List Part)
@@ -94,7 +94,7 @@ pub low_at_end : (text : List ℕ) (set : ClubSet) → IsSetAtEnd text set
 low_at_end text set told =
     let list = told.0 in
     let known = told.1.0 in
-    let all = alone (list_all is_club_number list) known in
+    let all = true_and_true (list_all is_club_number list) known in
     let back = set_back list set known told.2 in
     record {
       leaf = ap (λ t. line_in (text_named (codes "leaf") (next_named (codes "low") t))) told.1.1
@@ -113,7 +113,7 @@ pub high_at_end : (text : List ℕ) (set : ClubSet) → IsSetAtEnd text set
 high_at_end text set told =
     let list = told.0 in
     let known = told.1.0 in
-    let all = alone (list_all is_club_number list) known in
+    let all = true_and_true (list_all is_club_number list) known in
     let back = set_back list set known told.2 in
     record {
       leaf = ap (λ t. line_in (text_named (codes "leaf") (next_named (codes "high") t))) told.1.1
@@ -132,9 +132,6 @@ high_at_end text set told =
 -- a number from 1 in a text is one from 0 here
 from_one : (n : ℕ) → 1 ≤ n → number_in_text (n - 1) ≡ n
 from_one n some = omega arith
-
-below : (n most : ℕ) → 1 ≤ n → n ≤ most → nat_lt (n - 1) most ≡ true
-below n most some few = lt-ltb (n - 1) most (omega arith)
 
 -- a number and the end
 pub one_number : (least most n : ℕ) (text behind : List ℕ)
@@ -159,7 +156,7 @@ score_at_end n home away text first second behind told goals others ends =
     line_in-rest (line.Score (n - 1) (record { home = home; away = away })) (codes "score")
     (whole (number_in_text (n - 1)) ∷ whole home ∷ whole away ∷ []) text refl
     (and_from (is_fixture_number (n - 1)) (nat_le home 99 && nat_le away 99)
-    (below n 600 told.0 told.1)
+    (one_less_below n 600 told.0 told.1)
     (and_from (nat_le home 99) (nat_le away 99) (le-leb home 99 goals.1)
     (le-leb away 99 others.1)))
     refl

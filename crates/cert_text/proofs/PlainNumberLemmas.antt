@@ -1,40 +1,12 @@
 -- Numbers and lists of clubs at the start of a text, digit by digit and club by club.
-use Rattle.std.proofs.Common.{◌≡◌, ◌<◌, ◌+◌, ◌*◌, ◌/◌, ◌%◌, ℕ, true, List, []}
-use Rattle.std.proofs.Common.{◌∷◌, ◌++◌, map, refl, sym, ap, ◌∙◌, arith, append_assoc, decimal}
-use Rattle.std.proofs.Common.{Option, Some, None, MatchOption, IfSome}
+use Rattle.std.proofs.Common.{◌≡◌, ℕ, true, List, [], ◌∷◌, ◌++◌, map, refl, sym, ap, ◌∙◌}
+use Rattle.std.proofs.Common.{append_assoc, decimal}
 use Rattle.std.specs.List.{list_all, join_with_byte}
 use Rattle.std.proofs.lemmas.Bool.{and_parts, and_from}
-use Rattle.std.proofs.lemmas.Fmt.{decimal_digit, decimal_step}
 use Rattle.cert_text.specs.Lines.{number_in_text}
 use Rattle.cert_text.specs.Ranges.{is_club_number}
 use Rattle.cert_text.specs.inside.PlainForms.{AreClubsAtEnd}
-use Rattle.cert_text.proofs.PrintedLemmas.{alone}
-
--- what is said of what is there
-pub where_some : {A : Type 0} (found : Option A) (none : Type 0) (some : A → Type 0)
-    → MatchOption found none some → IfSome found some
-where_some None none some said = tt
-where_some (Some x) none some said = said
-
--- one digit
-pub digits_one : (n byte : ℕ) (text rest : List ℕ) → n < 10 → byte ≡ 48 + n
-    → text ≡ byte ∷ rest → text ≡ decimal n ++ rest
-digits_one n byte text rest small shown is =
-    is ∙ ap (λ b. b ∷ rest) shown ∙ ap (λ ds. ds ++ rest) (sym (decimal_digit n small))
-
--- one digit more
-pub digits_more : (n next byte : ℕ) (text rest : List ℕ) → 0 < n → n < 1000 → next < 10
-    → byte ≡ 48 + next → text ≡ byte ∷ rest
-    → decimal n ++ text ≡ decimal (10 * n + next) ++ rest
-digits_more n next byte text rest some few small shown is =
-    let whole : (10 * n + next) / 10 ≡ n = omega arith in
-    let last : (10 * n + next) % 10 ≡ next = omega arith in
-    ap (λ t. decimal n ++ t) (is ∙ ap (λ b. b ∷ rest) shown)
-    ∙ sym (ap (λ ds. ds ++ rest)
-    (decimal_step (10 * n + next) (omega arith) (omega arith)
-    ∙ ap (λ k. decimal k ++ (48 + (10 * n + next) % 10) ∷ []) whole
-    ∙ ap (λ d. decimal n ++ (48 + d) ∷ []) last)
-    ∙ append_assoc (decimal n) ((48 + next) ∷ []) rest)
+use Rattle.league_core.proofs.plain.TruthValues.{true_and_true}
 
 -- clubs in a list that goes on: each with a comma after it
 abbrev pub clubs_so_far : List ℕ → List ℕ
@@ -76,7 +48,7 @@ clubs_so_far-last (first ∷ next ∷ list) club rest =
 -- known clubs and one more
 pub clubs_known : (list : List ℕ) (club : ℕ) → list_all is_club_number list ≡ true
     → is_club_number club ≡ true → list_all is_club_number (list ++ club ∷ []) ≡ true
-clubs_known [] club all known = alone (is_club_number club) known
+clubs_known [] club all known = true_and_true (is_club_number club) known
 clubs_known (first ∷ list) club all known =
     let parts = and_parts (is_club_number first) (list_all is_club_number list) all in
     and_from (is_club_number first) (list_all is_club_number (list ++ club ∷ [])) parts.0

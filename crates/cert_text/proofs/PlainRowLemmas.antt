@@ -1,17 +1,14 @@
 -- A row with nothing to quote is its fields with commas between them.
-use Rattle.std.proofs.Common.{◌≡◌, ◌<◌, ◌+◌, ◌++◌, ◌∷◌, [], ℕ, List, Bool, true, false}
-use Rattle.std.proofs.Common.{get_or, length, map, take, not, refl, sym, ap, ◌∙◌, arith}
+use Rattle.std.proofs.Common.{◌≡◌, ◌<◌, ◌+◌, ◌++◌, ◌∷◌, [], ℕ, List, true, false, get_or, length}
+use Rattle.std.proofs.Common.{map, take, not, refl, sym, ap, ◌∙◌, arith}
 use Rattle.std.specs.List.{list_all}
 use Rattle.std.proofs.lemmas.List.{get_or-map, length-map, take-map}
 use Rattle.csv.specs.Writing.{default_writer, field_text, is_blank, needs_quotes, next_sep}
 use Rattle.csv.specs.Writing.{row_body}
 use Rattle.csv.proofs.WriteFacts.{row-step}
-use Rattle.league_core.proofs.PlainLemmas.{list_all-at}
 use Rattle.cert_text.specs.Rows.{text_of_row}
-
-not_true : (b : Bool) → not b ≡ true → b ≡ false
-not_true true none = absurd (cc none)
-not_true false none = refl
+use Rattle.league_core.proofs.plain.Lists.{list_all-at}
+use Rattle.league_core.proofs.plain.TruthValues.{not_true}
 
 -- a field with nothing to quote is written as it stands
 field_stands : (field : List ℕ) → not (needs_quotes default_writer field) ≡ true

@@ -28,6 +28,7 @@ use Rattle.cert_text.specs.Lines.{is_printed, text_of_proof_line}
 use Rattle.cert_text.specs.Ranges.{is_fixture_number, is_club_number, is_goal_bound, are_points}
 use Rattle.cert_text.specs.Ranges.{is_test_in_range, is_set_in_range, is_reason_in_range}
 use Rattle.cert_text.specs.Ranges.{is_in_range}
+use Rattle.league_core.proofs.plain.TruthValues.{true_and_true, two_and_true}
 
 is_printed-from : (byte : ℕ) → 32 ≤ byte → byte < 127 → is_printed byte ≡ true
 is_printed-from byte low high =
@@ -127,32 +128,27 @@ small_goals goals most small known =
     let within = leb-true goals most known in
     lt-ltb goals 10000 (omega arith)
 
-pub alone : (b : Bool) → b ≡ true → (b && true) ≡ true
-alone b e = and_from b true e refl
-
-pair : (a b : Bool) → a ≡ true → b ≡ true → (a && (b && true)) ≡ true
-pair a b first second = and_from a (b && true) first (alone b second)
-
 small_test : (test : Test) → is_test_in_range test ≡ true
     → list_all is_small_part (test_parts test) ≡ true
-small_test (Home fixture) known = alone (nat_lt (number_in_text fixture) 10000)
+small_test (Home fixture) known = true_and_true (nat_lt (number_in_text fixture) 10000)
     (small_fixture fixture known)
-small_test (Draw fixture) known = alone (nat_lt (number_in_text fixture) 10000)
+small_test (Draw fixture) known = true_and_true (nat_lt (number_in_text fixture) 10000)
     (small_fixture fixture known)
 small_test (HomeMost fixture most) known =
     let parts = and_parts (is_fixture_number fixture) (is_goal_bound most) known in
-    pair (nat_lt (number_in_text fixture) 10000) (nat_lt most 10000)
+    two_and_true (nat_lt (number_in_text fixture) 10000) (nat_lt most 10000)
     (small_fixture fixture parts.0) (small_goals most 98 (omega arith) parts.1)
 small_test (AwayMost fixture most) known =
     let parts = and_parts (is_fixture_number fixture) (is_goal_bound most) known in
-    pair (nat_lt (number_in_text fixture) 10000) (nat_lt most 10000)
+    two_and_true (nat_lt (number_in_text fixture) 10000) (nat_lt most 10000)
     (small_fixture fixture parts.0) (small_goals most 98 (omega arith) parts.1)
-small_test (Rival club) known = alone (nat_lt (number_in_text club) 10000) (small_club club known)
+small_test (Rival club) known = true_and_true (nat_lt (number_in_text club) 10000)
+    (small_club club known)
 
 pub small_set : (set : ClubSet) → is_set_in_range set ≡ true
     → (list_all is_club_number (clubs_in set) && true) ≡ true
 small_set set known =
-    alone (list_all is_club_number (clubs_in set))
+    true_and_true (list_all is_club_number (clubs_in set))
     (and_parts (has_member (clubs_in set)) (list_all is_club_number (clubs_in set)) known).1
 
 small_reason : (reason : Reason) → is_reason_in_range reason ≡ true
@@ -172,28 +168,28 @@ small_score fixture score known =
     let goals = and_parts (nat_le score.home 99) (nat_le score.away 99) parts.1 in
     and_from (nat_lt (number_in_text fixture) 10000)
     (nat_lt score.home 10000 && (nat_lt score.away 10000 && true)) (small_fixture fixture parts.0)
-    (pair (nat_lt score.home 10000) (nat_lt score.away 10000)
+    (two_and_true (nat_lt score.home 10000) (nat_lt score.away 10000)
     (small_goals score.home 99 (omega arith) goals.0)
     (small_goals score.away 99 (omega arith) goals.1))
 
 pub small_line : (x : ProofLine) → is_in_range x ≡ true → list_all is_small_part (parts_of x) ≡ true
-small_line (line.Tree claim) known = alone (list_all is_printed (claim_word claim))
+small_line (line.Tree claim) known = true_and_true (list_all is_printed (claim_word claim))
     (small_claim claim)
-small_line (line.Spent claim) known = alone (list_all is_printed (claim_word claim))
+small_line (line.Spent claim) known = true_and_true (list_all is_printed (claim_word claim))
     (small_claim claim)
 small_line (line.SpentWindow claim low high) known =
     let ends = and_parts (are_points low) (are_points high) known in
     and_from (list_all is_printed (claim_word claim)) (are_points low && (are_points high && true))
-    (small_claim claim) (pair (are_points low) (are_points high) ends.0 ends.1)
+    (small_claim claim) (two_and_true (are_points low) (are_points high) ends.0 ends.1)
 small_line (line.Split test) known = small_test test known
 small_line (line.NewSplit test) known = small_test test known
 small_line (line.Leaf reason) known = small_reason reason known
 small_line (line.NewLeaf reason) known = small_reason reason known
 small_line line.OpenLeaf known = refl
-small_line (line.Finish claim) known = alone (list_all is_printed (claim_word claim))
+small_line (line.Finish claim) known = true_and_true (list_all is_printed (claim_word claim))
     (small_claim claim)
 small_line (line.Score fixture score) known = small_score fixture score known
-small_line (line.Lots lots) known = alone (list_all is_club_number lots.list) known
+small_line (line.Lots lots) known = true_and_true (list_all is_club_number lots.list) known
 
 -- the text of small parts is printed
 pub parts_printed : (parts : List Part) → list_all is_small_part parts ≡ true

@@ -1,9 +1,8 @@
 -- The tests of proper splits are such as lines have: a bound on goals that divides a zone is one
 -- that a score can miss.
-use Rattle.std.proofs.Common.{◌≡◌, ℕ, ◌<◌, ◌≤◌, true, false, not, ◌&&◌, ◌||◌, ◌==◌, nat_lt}
-use Rattle.std.proofs.Common.{nat_le, List, [], length, get_or, Option, Some, None, refl, sym}
-use Rattle.std.proofs.Common.{ap}
-use Rattle.std.proofs.Common.{◌∙◌, zero-add, arith}
+use Rattle.std.proofs.Common.{◌≡◌, ℕ, ◌<◌, ◌≤◌, true, false, not, ◌&&◌, ◌||◌, ◌==◌, nat_lt, nat_le}
+use Rattle.std.proofs.Common.{List, [], length, get_or, Option, Some, None, refl, sym, ap, ◌∙◌}
+use Rattle.std.proofs.Common.{zero-add, arith}
 use Rattle.std.specs.List.{list_all}
 use Rattle.std.proofs.lemmas.Bool.{and_parts, and_from, ltb-true, lt-ltb, leb-true, leb-false}
 use Rattle.std.proofs.lemmas.Bool.{le-leb, eq-eqb, not-true}
@@ -23,13 +22,12 @@ use Rattle.league_core.specs.search.Splits.{have_both_finish, is_proper, IsPrope
 use Rattle.league_core.specs.search.Trees.{Tree, open_leaf, lent_leaf, refuted_leaf, branch}
 use Rattle.league_core.specs.search.Trees.{NodesMeet}
 use Rattle.league_core.proofs.OptionLemmas.{has_score-with, has_score-options_of}
-use Rattle.league_core.proofs.OptionLemmas.{get_or-options_from}
-use Rattle.league_core.proofs.OptionLemmas.{length-options_from}
-use Rattle.league_core.proofs.PlainLemmas.{list_all-at}
+use Rattle.league_core.proofs.OptionLemmas.{get_or-options_from, length-options_from}
 use Rattle.league_core.proofs.OptionTestLemmas.{first_shown}
 use Rattle.league_core.proofs.FinishLemmas.{may_end_is_score}
 use Rattle.cert_text.specs.Ranges.{is_fixture_number, is_goal_bound}
 use Rattle.cert_text.specs.TreeLines.{is_test_for, are_tests_for}
+use Rattle.league_core.proofs.plain.Lists.{list_all-at}
 
 -- if a test of a fixture misses, its no half has a score that misses
 missed_score : (limit : ℕ) (zone : List Literal) (test : Test) (fixture : ℕ) (played : Option Score)

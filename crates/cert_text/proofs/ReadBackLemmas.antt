@@ -1,8 +1,8 @@
 -- The compact JSON of a line's parts is read as what it was made of, so the text of a line is read
 -- as the line.
-use Rattle.std.proofs.Common.{◌≡◌, ◌<◌, ◌≤◌, ◌^◌, ℕ, suc, ℤ, pos, negsuc, Bool, true}
-use Rattle.std.proofs.Common.{List, [], ◌∷◌, ◌++◌, map, Some, option_map, refl, sym}
-use Rattle.std.proofs.Common.{ap, ◌∙◌, arith, append-nil, ◌&&◌, nat_lt, nat_le}
+use Rattle.std.proofs.Common.{◌≡◌, ◌<◌, ◌≤◌, ◌^◌, ℕ, suc, ℤ, pos, negsuc, Bool, true, List, [], ◌∷◌}
+use Rattle.std.proofs.Common.{◌++◌, map, Some, option_map, refl, sym, ap, ◌∙◌, arith, append-nil}
+use Rattle.std.proofs.Common.{◌&&◌, nat_lt, nat_le}
 use Rattle.std.specs.Prelude.{option_and_then, int_le}
 use Rattle.std.specs.List.{list_all}
 use Rattle.std.proofs.lemmas.Bool.{and_parts, and_from, ltb-true, lt-ltb}
@@ -14,8 +14,7 @@ use Rattle.json.proofs.Printed.Tokens.{tokens-print}
 use Rattle.json.proofs.Printed.Trees.{value-json_tokens, ArePrintable-json_tokens}
 use Rattle.json.proofs.Printed.Decimals.{IsNumber-decimal, IsNumber-signed_decimal}
 use Rattle.json.proofs.Printed.Utf8.{are_ascii, IsUtf8-are_ascii}
-use Rattle.serde_json.specs.Data.{Data, Items, number, array, unsigned, no_items}
-use Rattle.serde_json.specs.Data.{item}
+use Rattle.serde_json.specs.Data.{Data, Items, number, array, unsigned, no_items, item}
 use Rattle.serde_json.specs.Read.{read, of_json, of_items, max_depth}
 use Rattle.serde_json.specs.Written.{outline, items_outline, compact_text}
 use Rattle.serde_json.specs.View.{items_of}
@@ -33,15 +32,15 @@ use Rattle.cert_text.specs.Lines.{test_parts, reason_parts, array_text, part_tex
 use Rattle.cert_text.specs.Lines.{text_of_proof_line, is_printed}
 use Rattle.cert_text.specs.inside.Values.{part_value, parts_value}
 use Rattle.cert_text.specs.Ranges.{is_in_range, is_fixture_number, is_club_number, is_goal_bound}
-use Rattle.cert_text.specs.Ranges.{are_points, is_test_in_range}
-use Rattle.cert_text.specs.Ranges.{is_reason_in_range}
+use Rattle.cert_text.specs.Ranges.{are_points, is_test_in_range, is_reason_in_range}
 use Rattle.cert_text.specs.inside.Widths.{is_line_kept}
 use Rattle.cert_text.specs.Forms.{line_in, line_of_value}
 use Rattle.cert_text.proofs.LineLemmas.{is_plain_part, text_of_parts, plain_line}
-use Rattle.cert_text.proofs.PrintedLemmas.{alone, small_fixture, small_goals, is_small_part}
-use Rattle.cert_text.proofs.PrintedLemmas.{small_set, small_score, small_line, parts_printed}
+use Rattle.cert_text.proofs.PrintedLemmas.{small_fixture, small_goals, is_small_part, small_set}
+use Rattle.cert_text.proofs.PrintedLemmas.{small_score, small_line, parts_printed}
 use Rattle.cert_text.proofs.ReadLemmas.{json_of-utf8}
 use Rattle.cert_text.proofs.FormLemmas.{line_back}
+use Rattle.league_core.proofs.plain.TruthValues.{true_and_true}
 
 -- ---- any value
 
@@ -169,19 +168,20 @@ narrow_bounded fixture most known =
     let parts = and_parts (is_fixture_number fixture) (is_goal_bound most) known in
     and_from (nat_lt (number_in_text fixture) 10000) (nat_lt most 10000 && true)
     (small_fixture fixture parts.0)
-    (alone (nat_lt most 10000) (small_goals most 98 (omega arith) parts.1))
+    (true_and_true (nat_lt most 10000) (small_goals most 98 (omega arith) parts.1))
 
 narrow_test : (test : Test) → is_test_in_range test ≡ true
     → list_all is_narrow (test_parts test) ≡ true
 narrow_test (Home fixture) known =
-    alone (nat_lt (number_in_text fixture) 10000) (small_fixture fixture known)
+    true_and_true (nat_lt (number_in_text fixture) 10000) (small_fixture fixture known)
 narrow_test (Draw fixture) known =
-    alone (nat_lt (number_in_text fixture) 10000) (small_fixture fixture known)
+    true_and_true (nat_lt (number_in_text fixture) 10000) (small_fixture fixture known)
 narrow_test (HomeMost fixture most) known = narrow_bounded fixture most known
 narrow_test (AwayMost fixture most) known = narrow_bounded fixture most known
 narrow_test (Rival club) known =
     let below = ltb-true club 24 known in
-    alone (nat_lt (number_in_text club) 10000) (lt-ltb (number_in_text club) 10000 (omega arith))
+    true_and_true (nat_lt (number_in_text club) 10000) (lt-ltb (number_in_text club) 10000
+    (omega arith))
 
 narrow_reason : (reason : Reason) → is_reason_in_range reason ≡ true
     → list_all is_narrow (reason_parts reason) ≡ true
@@ -196,7 +196,8 @@ narrow_line (line.Tree claim) known = refl
 narrow_line (line.Spent claim) known = refl
 narrow_line (line.SpentWindow claim low high) known =
     let ends = and_parts (are_points low) (are_points high) known in
-    and_from (are_points low) (are_points high && true) ends.0 (alone (are_points high) ends.1)
+    and_from (are_points low) (are_points high && true) ends.0
+    (true_and_true (are_points high) ends.1)
 narrow_line (line.Split test) known = narrow_test test known
 narrow_line (line.NewSplit test) known = narrow_test test known
 narrow_line (line.Leaf reason) known = narrow_reason reason known
@@ -204,7 +205,7 @@ narrow_line (line.NewLeaf reason) known = narrow_reason reason known
 narrow_line line.OpenLeaf known = refl
 narrow_line (line.Finish claim) known = refl
 narrow_line (line.Score fixture score) known = small_score fixture score known
-narrow_line (line.Lots lots) known = alone (list_all is_club_number lots.list) known
+narrow_line (line.Lots lots) known = true_and_true (list_all is_club_number lots.list) known
 
 -- ---- the text of a line
 

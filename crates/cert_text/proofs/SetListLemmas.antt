@@ -1,14 +1,14 @@
 -- A set that is read from a list, club by club.
-use Rattle.std.proofs.Common.{◌≡◌, ℕ, ◌+◌, ◌*◌, ◌%◌, ◌^◌, ◌<◌, ◌≤◌, List, ◌∷◌, drop}
-use Rattle.std.proofs.Common.{length, get_or, Option, Some, None, pow-suc, add-one, ap, sym, ◌∙◌}
-use Rattle.std.proofs.Common.{arith}
+use Rattle.std.proofs.Common.{◌≡◌, ℕ, ◌+◌, ◌*◌, ◌%◌, ◌^◌, ◌<◌, ◌≤◌, List, ◌∷◌, drop, length, get_or}
+use Rattle.std.proofs.Common.{Option, Some, None, pow-suc, add-one, ap, sym, ◌∙◌, arith}
 use Rattle.std.specs.Prelude.{◌&&◌, if◌then◌else◌}
-use Rattle.std.proofs.Math.Pow.{pow_mono, pow-lt}
+use Rattle.std.proofs.Math.Pow.{pow_mono}
 use Rattle.std.proofs.lemmas.Bool.{lt-ltb, le-leb}
 use Rattle.std.proofs.lemmas.List.{at_drop_more}
 use Rattle.league_core.specs.declared.club_set.ClubSet.{ClubSet}
 use Rattle.cert_text.specs.Ranges.{is_club_number}
 use Rattle.cert_text.specs.Places.{are_rising_from, bits_at, set_listed}
+use Rattle.league_core.proofs.plain.Numbers.{power_fits}
 
 -- the set of what is left of a list, with the bits so far, if it goes on rising
 abbrev pub set_of_rest : ℕ → ℕ → List ℕ → Option ClubSet
@@ -18,11 +18,6 @@ set_of_rest least bits rest =
 -- the set of the list is that
 abbrev pub IsListedSoFar : List ℕ → ℕ → ℕ → ℕ → Type 0
 IsListedSoFar clubs count least bits = set_listed clubs ≡ set_of_rest least bits (drop count clubs)
-
-one_bit : (club : ℕ) → club < 24 → 1 * 2 ^ club % 2 ^ 32 ≡ 2 ^ club
-one_bit club below =
-    let fits : 2 ^ club < 2 ^ 32 = pow-lt {j = 32} (omega (arith, below)) in
-    omega (arith, fits)
 
 -- the next club rises
 next_of_rest : (least bits club : ℕ) (rest : List ℕ) → least ≤ club → club < 24
@@ -52,7 +47,7 @@ listed_more clubs count least bits inside rises below fits so_far =
     let club = get_or clubs count 0 in
     let small : bits < 2 ^ club = omega (arith, fits, pow_mono rises) in
     let both : bits + 2 ^ club < 2 ^ (club + 1) = more bits club small in
-    let bit = one_bit club below in (
+    let bit = power_fits club below in (
       omega (arith, below),
       omega (arith, both, bit),
       so_far

@@ -1,13 +1,11 @@
 -- Rivals counted by sets of clubs.
-use Rattle.std.proofs.Common.{◌≡◌, ◌≢◌, ℕ, ◌+◌, ◌*◌, ◌-◌, ◌<◌, ◌≤◌, ℤ, ◌*ℤ◌}
-use Rattle.std.proofs.Common.{◌≤ℤ◌, Bool, true, false, not, ◌&&◌, ◌||◌, ◌==◌, nat_lt, nat_le, ltb}
-use Rattle.std.proofs.Common.{cond, List, [], ◌∷◌, length, refl, sym, ap, ◌∙◌, arith}
+use Rattle.std.proofs.Common.{◌≡◌, ◌≢◌, ℕ, ◌-◌, ◌<◌, ◌≤◌, Bool, true, false, not, ◌&&◌, ◌||◌, ◌==◌}
+use Rattle.std.proofs.Common.{nat_lt, nat_le, ltb, List, [], ◌∷◌, length, refl, sym, ap, ◌∙◌, arith}
 use Rattle.std.specs.Prelude.{count_by}
 use Rattle.std.specs.List.{list_all, list_any, range_with_len}
 use Rattle.std.proofs.Math.Bool.{or-false}
-use Rattle.std.proofs.lemmas.Bool.{and_parts, ltb-true, lt-ltb}
-use Rattle.std.proofs.lemmas.Bool.{eqb-true, eqb-false, not-true}
-use Rattle.std.proofs.lemmas.List.Sums.{length-filter, sum_by-cons}
+use Rattle.std.proofs.lemmas.Bool.{and_parts, ltb-true, lt-ltb, eqb-true, eqb-false, not-true}
+use Rattle.std.proofs.lemmas.List.Sums.{length-filter}
 use Rattle.league_core.specs.declared.sheet.Sheet.{Sheet}
 use Rattle.league_core.specs.declared.question.Claim.{Claim}
 use Rattle.league_core.specs.declared.question.Claim.TheVariants.{Inside, Outside}
@@ -18,10 +16,12 @@ use Rattle.league_core.specs.game.Sums.{has_club}
 use Rattle.league_core.specs.game.ClubSets.{clubs_below}
 use Rattle.league_core.specs.search.Zones.{others_of}
 use Rattle.league_core.specs.search.Reasons.{too_many}
-use Rattle.league_core.proofs.PlainLemmas.{eqb-swap}
 use Rattle.league_core.proofs.ClubSetLemmas.{clubs_below-filter_range, has_club-range}
-use Rattle.league_core.proofs.ClubSetLemmas.{filter-filter, filter_agree_in, has_club-filter}
+use Rattle.league_core.proofs.ClubSetLemmas.{filter_agree_in, has_club-filter}
 use Rattle.league_core.proofs.ClubLemmas.{each_member}
+use Rattle.league_core.proofs.plain.Numbers.{eqb-swap}
+use Rattle.league_core.proofs.plain.Filters.{filter-filter}
+use Rattle.league_core.proofs.plain.Counts.{any_counted}
 
 -- the rivals of a set, counted
 pub count_rivals-is : (clubs club bits chosen without first single : ℕ) → clubs ≤ 32
@@ -81,19 +81,6 @@ too_many_same sheet question front back front' back' Inside fronts backs =
 too_many_same sheet question front back front' back' Outside fronts backs =
     ap (nat_le (length sheet.clubs - question.line))
     (count_same (length sheet.clubs) question.club back back' backs)
-
--- one rival passes exactly when the count is not 0
-pub any_counted : (test : ℕ → Bool) (xs : List ℕ) → nat_lt 0 (count_by test xs) ≡ list_any test xs
-any_counted test [] = refl
-any_counted test (x ∷ xs) =
-    counted (test x) (count_by test (x ∷ xs)) (count_by test xs) (list_any test xs)
-    (sum_by-cons (λ (y : ℕ). cond (test y) 1 0) x xs) (any_counted test xs)
-  where
-    counted : (b : Bool) (all rest : ℕ) (later : Bool) → all ≡ cond b 1 0 + rest
-        → nat_lt 0 rest ≡ later → nat_lt 0 all ≡ (b || later)
-    counted true all rest later more is = lt-ltb 0 all (omega (arith, more))
-    counted false all rest later more is =
-        let none : all ≡ rest = omega (arith, more) in ap (nat_lt 0) none ∙ is
 
 -- a club of the sheet that is surely before or behind, by a set
 by_set : (clubs : List ℕ) (test : Sure → Bool) (said known : ℕ → Sure)

@@ -1,11 +1,7 @@
 -- Tables of answers, club by club: each answer that was level takes the next.
-use Rattle.std.proofs.Common.{◌≡◌, ◌≢◌, ◌⊎◌, inl, inr, ℕ, ◌+◌, ◌<◌, ◌≤◌, Bool, true, false, ◌&&◌}
-use Rattle.std.proofs.Common.{not, cond, List, [], ◌∷◌, length, get_or, set, filter, refl}
-use Rattle.std.proofs.Common.{sym, ap, ◌∙◌, arith}
-use Rattle.std.specs.Prelude.{IsTrue, ◌↔◌}
-use Rattle.std.specs.List.{list_all}
-use Rattle.std.proofs.lemmas.Bool.{cases_eq, and_parts, false≢true}
-use Rattle.std.proofs.lemmas.Bool.Decides.{same_from_decides}
+use Rattle.std.proofs.Common.{◌≡◌, ◌≢◌, ◌⊎◌, inl, inr, ℕ, ◌+◌, ◌<◌, ◌≤◌, true, ◌&&◌, List, length}
+use Rattle.std.proofs.Common.{get_or, set, filter, refl, sym, ap, ◌∙◌, arith}
+use Rattle.std.proofs.lemmas.Bool.{cases_eq, false≢true}
 use Rattle.std.proofs.lemmas.List.{get_or-set_same, get_or-set_other, length-set}
 use Rattle.league_core.specs.declared.sure.Sure.{Sure}
 use Rattle.league_core.specs.declared.sure.Sure.TheVariants.{Above, Below, Level, Unknown}
@@ -54,31 +50,6 @@ taken_more old now count next was answer said inside taken was_is said_is is = r
     at rival below (inr other) =
         get_or-set_other now count rival answer Unknown other
         ∙ taken.done rival (omega (arith, below, other))
-
--- all pass a test exactly when none of them fails it
-pub all_pass-none_fails : (test : ℕ → Bool) (clubs failed : List ℕ) (is_empty : Bool)
-    → failed ≡ filter (λ x. not (test x)) clubs → (IsTrue is_empty ↔ (failed ≡ []))
-    → is_empty ≡ list_all test clubs
-all_pass-none_fails test clubs failed is_empty are says =
-    same_from_decides {P = failed ≡ []} is_empty (list_all test clubs) says
-    (λ all. are ∙ none clubs all, λ empty. each clubs (sym are ∙ empty))
-  where
-    none : (clubs : List ℕ) → list_all test clubs ≡ true → filter (λ x. not (test x)) clubs ≡ []
-    none [] all = refl
-    none (club ∷ clubs) all =
-        let parts = and_parts (test club) (list_all test clubs) all in
-        ap (λ b. cond (not b) (club ∷ filter (λ x. not (test x)) clubs)
-        (filter (λ x. not (test x)) clubs)) parts.0
-        ∙ none clubs parts.1
-
-    each : (clubs : List ℕ) → filter (λ x. not (test x)) clubs ≡ [] → list_all test clubs ≡ true
-    each [] empty = refl
-    each (club ∷ clubs) empty =
-        elim (test club) as (λ b. cond (not b) (club ∷ filter (λ x. not (test x)) clubs)
-        (filter (λ x. not (test x)) clubs) ≡ [] → (b && list_all test clubs) ≡ true) [
-          | true ↦ λ e. each clubs e
-          | false ↦ λ e. absurd (cc)
-        ] empty
 
 -- an answer that is not level stays
 pub stays : (a next : Sure) → (is_level a ≡ true → ⊥) → a ≡ sure_then a next

@@ -1,11 +1,11 @@
 -- The words of the command: what clap makes of them, and numbers of up to 20 digits.
 use Rattle.std.proofs.Common.{◌≡◌, ℕ, ◌^◌, ◌<◌, Bool, true, false, ◌&&◌, nat_le, List, [], ◌∷◌}
 use Rattle.std.proofs.Common.{length, Option, Some, None, option_and_then, Result, Ok, Err, refl}
-use Rattle.std.proofs.Common.{ap, sym, ◌∙◌, subst, arith, rules, inl, inr}
+use Rattle.std.proofs.Common.{ap, sym, ◌∙◌, subst, arith, inl, inr}
 use Rattle.std.specs.List.{list_all}
 use Rattle.std.specs.Char.{is_ascii_digit}
 use Rattle.std.specs.Str.Parse.{digits_value, ParsesUnsigned}
-use Rattle.std.proofs.lemmas.Str.Parse.{numerals_by_value, parse_gives, IsNumeralModel}
+use Rattle.std.proofs.lemmas.Str.Parse.{parse_gives}
 use Rattle.std.proofs.lemmas.Bool.{and_parts, leb-true}
 use Rattle.clap.specs.Words.{App, Kinds, Row, Text, IsAmong, HasKind, kind_of, fault_of, is_simple}
 use Rattle.clap.specs.Words.{is_simple_and_free, matches_of}
@@ -14,6 +14,8 @@ use Rattle.clap.specs.declared.error.kind.ErrorKind.TheVariants as kind
 use Rattle.clap.proofs.OnLiterals.{clap_on_literals}
 use Rattle.command_words.specs.Commands.{app, unless_fault, rows_taken, is_numeral}
 use Rattle.command_words.specs.Commands.{is_number_within, command_in, command_of}
+use Rattle.league_core.proofs.plain.TruthValues.{and-false}
+use Rattle.league_core.proofs.plain.Texts.{numerals}
 
 -- ---- clap
 
@@ -71,15 +73,6 @@ unfolding command_of
 command_of-taken words rows are = ap (option_and_then command_in) (sym are)
 
 -- ---- numbers
-
--- digits are numerals, by their value
-numerals : IsNumeralModel (λ ds. list_all is_ascii_digit ds ≡ true) (digits_value 10)
-numerals = numerals_by_value _ (search rules)
-
--- a test that fails makes no more than a failed one
-and-false : (first : Bool) → false ≡ (first && false)
-and-false true = refl
-and-false false = refl
 
 -- a value past the range is not within it
 value-past : (value most : ℕ) (test : Bool) → (value < 2 ^ 64 → ⊥) → most < 2 ^ 64

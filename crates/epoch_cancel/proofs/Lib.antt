@@ -1,4 +1,3 @@
-pub mod PrefixLemmas
 mod PackLemmas
 mod ViewLemmas
 mod MoveLemmas

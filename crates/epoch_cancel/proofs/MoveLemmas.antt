@@ -1,7 +1,6 @@
 -- Each step keeps the rule of the table, and tells its seat what it says.
-use Rattle.std.proofs.Common.{◌≡◌, ◌≢◌, ℕ, zero, suc, ◌/◌, ◌<◌, ◌≤◌, true, false}
-use Rattle.std.proofs.Common.{IsTrue, All, List, [], ◌∷◌, ◌++◌, length, set, refl, sym, ap, ◌∙◌}
-use Rattle.std.proofs.Common.{subst, ⊎_elim, arith}
+use Rattle.std.proofs.Common.{◌≡◌, ◌≢◌, ℕ, zero, suc, ◌/◌, ◌<◌, ◌≤◌, true, false, IsTrue, All, List}
+use Rattle.std.proofs.Common.{[], ◌∷◌, ◌++◌, length, set, refl, sym, ap, ◌∙◌, subst, ⊎_elim, arith}
 use Rattle.std.specs.Prelude.{slice_index}
 use Rattle.std.proofs.lemmas.List.Elements.{All-head, All-tail}
 use mathlib.Core.Option.{none, some, some-ne-none, some-injective}
@@ -17,11 +16,11 @@ use Rattle.epoch_cancel.specs.inside.Views.{owner_of, nobody, view_told, view_lo
 use Rattle.epoch_cancel.specs.inside.Views.{view_beside}
 use Rattle.epoch_cancel.specs.inside.Rule.{FitsLog, IsRuled}
 use Rattle.epoch_cancel.specs.inside.Moves.{StoresWord, ComparesLists, FindsEpoch}
-use Rattle.epoch_cancel.proofs.PrefixLemmas.{prefix_self, prefix_nothing, prefix_shorter}
 use Rattle.epoch_cancel.proofs.PackLemmas.{code_of-below, last_code-push, pack_of-epoch}
 use Rattle.epoch_cancel.proofs.PackLemmas.{pack_names_event}
 use Rattle.epoch_cancel.proofs.ViewLemmas.{fits_set, nobody_fits, others_told, owner_told}
 use Rattle.epoch_cancel.proofs.ViewLemmas.{looked_fits, copy_fits, longer_fits, beside_fits}
+use Rattle.league_core.proofs.plain.Prefixes.{prefix_self, prefix_nothing, prefix_shorter}
 
 -- ---- the beginning
 

@@ -1,7 +1,7 @@
 -- Views beside the log: what fits still fits after each kind of change of a view.
-use Rattle.std.proofs.Common.{◌≡◌, ◌≢◌, ℕ, ◌<◌, ◌≤◌, Bool, true, false, true≢false, nat_lt}
-use Rattle.std.proofs.Common.{List, [], ◌∷◌, ◌++◌, length, set, refl, sym, ap, ◌∙◌, subst, ⊎_elim}
-use Rattle.std.proofs.Common.{arith, length-append}
+use Rattle.std.proofs.Common.{◌≡◌, ◌≢◌, ℕ, ◌<◌, ◌≤◌, Bool, true, false, true≢false, nat_lt, List}
+use Rattle.std.proofs.Common.{[], ◌∷◌, ◌++◌, length, set, refl, sym, ap, ◌∙◌, subst, ⊎_elim, arith}
+use Rattle.std.proofs.Common.{length-append}
 use Rattle.std.specs.Prelude.{if◌then◌else◌}
 use Rattle.std.proofs.lemmas.Bool.{lt-ltb, ltb-false}
 use mathlib.Core.Option.{some}
@@ -13,8 +13,9 @@ use Rattle.epoch_cancel.specs.declared.view.View.{View}
 use Rattle.epoch_cancel.specs.inside.Views.{nobody, longer_of, view_told, view_looked, view_longer}
 use Rattle.epoch_cancel.specs.inside.Views.{view_beside}
 use Rattle.epoch_cancel.specs.inside.Rule.{FitsLog}
-use Rattle.epoch_cancel.proofs.PrefixLemmas.{prefix_self, prefix_nothing, prefix_more}
-use Rattle.epoch_cancel.proofs.PrefixLemmas.{prefix_whole}
+use Rattle.league_core.proofs.plain.Prefixes.{prefix_self, prefix_nothing, prefix_more}
+use Rattle.league_core.proofs.plain.Prefixes.{prefix_whole}
+use Rattle.league_core.proofs.plain.TruthValues.{if_either}
 
 -- what does not own, owns nothing
 owns_nothing : {A : Type 0} (owns : Bool) → owns ≡ false → owns ≡ true → A
@@ -97,19 +98,13 @@ copy_fits seat log by at view copy foreign list other newest fits = record {
 
 -- ---- two views
 
--- one of two
-one_of : {A : Type 0} (which : Bool) (x y : A) (P : A → Type 0) → P x → P y
-    → P (if which then x else y)
-one_of true x y P p q = p
-one_of false x y P p q = q
-
 -- a view that took the longer list fits
 pub longer_fits : (seat : ℕ) (log : List Event) (by at : ℕ) (view from : View)
     → view.owns ≡ false → FitsLog seat log by view → FitsLog seat log at from
     → FitsLog seat log by (view_longer view from)
 longer_fits seat log by at view from foreign fits theirs = record {
   owner = λ owns. owns_nothing view.owns foreign owns;
-  list = one_of (nat_lt (length view.list) (length from.list)) from.list view.list
+  list = if_either (nat_lt (length view.list) (length from.list)) from.list view.list
       (λ xs. IsPrefix xs log) theirs.list fits.list;
   other = fits.list;
   newest = fits.newest;

@@ -1,15 +1,12 @@
 -- Where a club stands in a group, step by step: by one order, and within the clubs that it leaves
 -- level by the next one.
-use Rattle.std.proofs.Common.{◌≡◌, ℕ, ◌<◌, ◌≤◌, Bool, true, false, ◌&&◌, ◌||◌}
-use Rattle.std.proofs.Common.{◌==◌, List, [], ◌∷◌, ◌++◌, length, filter, refl, sym, ap}
-use Rattle.std.proofs.Common.{◌∙◌}
-use Rattle.std.proofs.Common.{arith}
+use Rattle.std.proofs.Common.{◌≡◌, ℕ, ◌<◌, ◌≤◌, Bool, true, false, ◌&&◌, ◌||◌, ◌==◌, List, [], ◌∷◌}
+use Rattle.std.proofs.Common.{◌++◌, length, filter, refl, sym, ap, ◌∙◌, arith}
 use Rattle.std.specs.declared.cmp.Ordering.{Ordering}
-use Rattle.std.specs.declared.cmp.Ordering.TheVariants.{Less, Equal, Greater}
+use Rattle.std.specs.declared.cmp.Ordering.TheVariants.{Equal}
 use Rattle.std.specs.Ordering.{is_eq, is_lt, int_eq, ordering_then}
 use Rattle.std.specs.Cmp.{IsTotalOrder}
-use Rattle.std.proofs.lemmas.Bool.{and_from, and_parts}
-use Rattle.std.proofs.lemmas.Bool.{eqb-true, false≢true}
+use Rattle.std.proofs.lemmas.Bool.{and_from, and_parts, eqb-true, false≢true}
 use Rattle.std.proofs.lemmas.Cmp.{eq_by_cmp_equiv, tied_itself, int_cmp_total}
 use Rattle.league_core.specs.declared.sheet.Sheet.{Sheet}
 use Rattle.league_core.specs.declared.sheet.Order.TheVariants.{OverallFirst}
@@ -23,9 +20,7 @@ use Rattle.league_core.specs.game.Ahead.{lead_in, by_first_sums, level_overall, 
 use Rattle.league_core.specs.game.Ahead.{standing_in}
 use Rattle.league_core.specs.game.Ranking.{tied_group_of}
 use Rattle.league_core.specs.inside.LotsFor.{order_without_lots}
-use Rattle.league_core.proofs.OrderingLemmas.{then_agree}
-use Rattle.league_core.proofs.StandingLemmas.{by_head_to_head_total}
-use Rattle.league_core.proofs.StandingLemmas.{lead_within_total}
+use Rattle.league_core.proofs.StandingLemmas.{by_head_to_head_total, lead_within_total}
 use Rattle.league_core.proofs.StandingLemmas.{level_with-tied, level_overall-tied}
 use Rattle.league_core.proofs.TimesLemmas.{lead_in-again, level_with-le}
 use Rattle.league_core.proofs.ClubSetLemmas.{clubs_below-filter, clubs_below-filter_range}
@@ -35,6 +30,7 @@ use Rattle.final_rank.proofs.TierLemmas.{by_points, by_points_total, is_of_sheet
 use Rattle.league_core.proofs.SeenLemmas.{passed_next}
 use Rattle.example_finish.specs.declared.standing.Standing.{Standing}
 use Rattle.example_finish.specs.inside.GroupStandings.{IsStandingOf, next_after}
+use Rattle.league_core.proofs.plain.Orderings.{then_agree, ahead_among_two, level_among_two}
 
 -- the clubs so far around a club, and the next one
 pub standing_next : (order : ℕ → ℕ → Ordering) (seen : List ℕ) (club at : ℕ) (old new : Standing)
@@ -65,22 +61,6 @@ standing_agrees order other group club standing agree is = record {
     under true test a b same = ap test (same refl)
     under false test a b same = refl
 
-ahead_in_two : (among : Bool) (first next whole : Ordering)
-    → (among ≡ true → whole ≡ ordering_then first next)
-    → ((among && is_lt first) || ((among && is_eq first) && is_lt next)) ≡ (among && is_lt whole)
-ahead_in_two false first next whole is = refl
-ahead_in_two true Less next whole is = ap is_lt (sym (is refl))
-ahead_in_two true Equal next whole is = ap is_lt (sym (is refl))
-ahead_in_two true Greater next whole is = ap is_lt (sym (is refl))
-
-level_in_two : (among : Bool) (first next whole : Ordering)
-    → (among ≡ true → whole ≡ ordering_then first next)
-    → ((among && is_eq first) && is_eq next) ≡ (among && is_eq whole)
-level_in_two false first next whole is = refl
-level_in_two true Less next whole is = ap is_eq (sym (is refl))
-level_in_two true Equal next whole is = ap is_eq (sym (is refl))
-level_in_two true Greater next whole is = ap is_eq (sym (is refl))
-
 -- where a club stands by a first order, and among those that it leaves level by the next one, is
 -- where it stands by both
 pub standing_then : (first next whole : ℕ → ℕ → Ordering) (group : List ℕ) (club : ℕ)
@@ -98,12 +78,12 @@ standing_then first next whole group club outer inner ahead is_first is_next is_
           ∙ (λ i. is_first.ahead x i || is_next.ahead x i)
           ∙ ap (λ b. (has_club group x && is_lt (first x club)) || (b && is_lt (next x club)))
           (is_first.level x)
-          ∙ ahead_in_two (has_club group x) (first x club) (next x club) (whole x club) (is_whole
+          ∙ ahead_among_two (has_club group x) (first x club) (next x club) (whole x club) (is_whole
           x);
       level = λ x.
           is_next.level x
           ∙ ap (λ b. b && is_eq (next x club)) (is_first.level x)
-          ∙ level_in_two (has_club group x) (first x club) (next x club) (whole x club) (is_whole
+          ∙ level_among_two (has_club group x) (first x club) (next x club) (whole x club) (is_whole
           x);
     }
 

@@ -1,8 +1,6 @@
 -- When one score is not taken before another, by the four parts of the wishes that it meets.
-use Rattle.std.proofs.Common.{◌≡◌, ◌≢◌, ◌⊎◌, inl, inr, ◌+◌, ◌<◌, ℤ, pos, neg_ℤ, ◌+ℤ◌, ◌<ℤ◌}
-use Rattle.std.proofs.Common.{Bool, true, List, [], ◌∷◌, Ordering, Less, Equal}
-use Rattle.std.proofs.Common.{Greater, refl, arith}
-use Rattle.std.specs.Ordering.{ordering_then}
+use Rattle.std.proofs.Common.{◌≡◌, ◌≢◌, ◌⊎◌, inl, inr, ◌+◌, ◌<◌, ℤ, pos, neg_ℤ, ◌+ℤ◌, ◌<ℤ◌, Bool}
+use Rattle.std.proofs.Common.{true, List, [], ◌∷◌, Less, refl, arith}
 use Rattle.std.proofs.lemmas.Bool.{lt-ltb, le-ltb, eq-eqb, ne_eqb, ltb-true, eqb-true}
 use Rattle.league_core.specs.declared.season.Score.{Score}
 use Rattle.league_core.specs.game.Sums.{match_points, goal_difference}
@@ -10,17 +8,7 @@ use Rattle.league_core.specs.game.HeadToHead.{greater_first, by_first_difference
 use Rattle.league_core.specs.search.Options.{is_home_win, is_draw, is_away_win}
 use Rattle.league_core.specs.search.Proposals.{weighed, weighed_together, wishes_met, option_order}
 use Rattle.league_core.proofs.OrderingLemmas.{greater_first-greater, greater_first-same}
-
-then_first : (first second : Ordering) → first ≡ Greater → ordering_then first second ≢ Less
-then_first Greater second is = λ e. cc
-then_first Less second is = λ e. cc
-then_first Equal second is = λ e. cc
-
-then_second : (first second : Ordering) → first ≡ Equal → second ≢ Less
-    → ordering_then first second ≢ Less
-then_second Equal second is not_less = not_less
-then_second Less second is not_less = λ e. cc
-then_second Greater second is not_less = λ e. cc
+use Rattle.league_core.proofs.plain.Orderings.{then_first, then_second}
 
 -- less at the first difference, or nowhere more
 abbrev pub IsNoGreater : List ℤ → List ℤ → Type 0

@@ -1,13 +1,9 @@
 -- The place of a club, by where it stands before the lots, and by its points alone.
-use Rattle.std.proofs.Common.{◌≡◌, inl, inr, ℕ, zero, suc, ◌+◌, ◌<◌, ◌≤◌, Bool, true}
-use Rattle.std.proofs.Common.{false, ◌&&◌, ◌||◌, cond, nat_le, nat_cmp, List, length, count_by}
-use Rattle.std.proofs.Common.{refl, sym, ap, ◌∙◌, arith}
-use Rattle.std.specs.List.{range_with_len}
+use Rattle.std.proofs.Common.{◌≡◌, ℕ, ◌+◌, ◌<◌, ◌≤◌, Bool, true, false, ◌&&◌, ◌||◌, nat_cmp, List}
+use Rattle.std.proofs.Common.{length, refl, ap, ◌∙◌, arith}
 use Rattle.std.specs.declared.cmp.Ordering.{Ordering}
-use Rattle.std.specs.declared.cmp.Ordering.TheVariants.{Less, Equal, Greater}
 use Rattle.std.specs.Ordering.{is_eq, is_lt, ordering_then}
-use Rattle.std.proofs.lemmas.Bool.{false≢true, cases_eq, or_right}
-use Rattle.std.proofs.lemmas.Bool.Decides.{nat_tests}
+use Rattle.std.proofs.lemmas.Bool.{or_right}
 use Rattle.std.proofs.lemmas.Cmp.{tied_itself}
 use Rattle.league_core.specs.declared.sheet.Sheet.{Sheet}
 use Rattle.league_core.specs.declared.question.Claim.TheVariants.{Inside, Outside}
@@ -20,11 +16,13 @@ use Rattle.league_core.specs.game.Ahead.{standing_in}
 use Rattle.league_core.specs.game.Ranking.{ranks_before, place_of, tied_group_of, lot_of}
 use Rattle.league_core.specs.inside.LotsFor.{lots_for_claim, order_without_lots}
 use Rattle.league_core.proofs.RankingLemmas.{ranks_before-itself}
-use Rattle.league_core.proofs.ClubCountLemmas.{count_suc, length-passing}
+use Rattle.league_core.proofs.ClubCountLemmas.{length-passing}
 use Rattle.final_rank.proofs.TierLemmas.{by_points_total}
 use Rattle.final_rank.proofs.SpanLemmas.{best_place_of-around, worst_place_of-around}
 use Rattle.example_finish.specs.declared.standing.Standing.{Standing}
 use Rattle.example_finish.specs.inside.GroupStandings.{IsStandingOf, by_points_in}
+use Rattle.league_core.proofs.plain.Counts.{count_fewer, count_misses}
+use Rattle.league_core.proofs.plain.Orderings.{first_allows, first_decides}
 
 -- first in the lots a club comes right after the clubs ahead of it
 pub place_inside : (sheet : Sheet) (season : Results) (club : ℕ) (standing : Standing)
@@ -51,60 +49,6 @@ place_outside sheet season club standing both limits below is union =
     worst_place_of-around sheet season club
     (record { ahead = standing.ahead; level = standing.level }) both (omega arith) below
     (record { ahead = is.ahead; level = is.level }) union
-
--- a test that passes no more clubs counts no more
-count_fewer : (p q : ℕ → Bool) (clubs : ℕ) → ((x : ℕ) → p x ≡ true → q x ≡ true)
-    → count_by p (range_with_len 0 clubs) ≤ count_by q (range_with_len 0 clubs)
-count_fewer p q zero within = omega arith
-count_fewer p q (suc clubs) within =
-    let rest = count_fewer p q clubs within in
-    let here : cond {A = ℕ} (p clubs) 1 0 ≤ cond {A = ℕ} (q clubs) 1 0 =
-    one (p clubs) (q clubs) (within clubs) in
-    omega (arith, count_suc p clubs, count_suc q clubs, rest, here)
-  where
-    one : (b c : Bool) → (b ≡ true → c ≡ true) → cond {A = ℕ} b 1 0 ≤ cond {A = ℕ} c 1 0
-    one false c sub = omega arith
-    one true true sub = omega arith
-    one true false sub = absurd (false≢true (sub refl))
-
--- and fewer, if it misses one of them
-count_misses : (p q : ℕ → Bool) (clubs club : ℕ) → club < clubs
-    → ((x : ℕ) → p x ≡ true → q x ≡ true) → p club ≡ false → q club ≡ true
-    → count_by p (range_with_len 0 clubs) + 1 ≤ count_by q (range_with_len 0 clubs)
-count_misses p q zero club below within out among = absurd (omega arith)
-count_misses p q (suc clubs) club below within out among =
-    elim (cases_eq club clubs) as (λ _. count_by p (range_with_len 0 (suc clubs)) + 1
-    ≤ count_by q (range_with_len 0 (suc clubs))) [
-      | inl same ↦
-          let rest = count_fewer p q clubs within in
-          let none : cond {A = ℕ} (p clubs) 1 0 ≡ 0 =
-          ap (λ b. cond {A = ℕ} b 1 0) (ap p (sym same) ∙ out) in
-          let one : cond {A = ℕ} (q clubs) 1 0 ≡ 1 =
-          ap (λ b. cond {A = ℕ} b 1 0) (ap q (sym same) ∙ among) in
-          omega (arith, count_suc p clubs, count_suc q clubs, rest, none, one)
-      | inr other ↦
-          let rest = count_misses p q clubs club (omega arith) within out among in
-          let here : cond {A = ℕ} (p clubs) 1 0 ≤ cond {A = ℕ} (q clubs) 1 0 =
-          no_more (p clubs) (q clubs) (within clubs) in
-          omega (arith, count_suc p clubs, count_suc q clubs, rest, here)
-    ]
-  where
-    no_more : (b c : Bool) → (b ≡ true → c ≡ true) → cond {A = ℕ} b 1 0 ≤ cond {A = ℕ} c 1 0
-    no_more false c sub = omega arith
-    no_more true true sub = omega arith
-    no_more true false sub = absurd (false≢true (sub refl))
-
-first_decides : (first rest : Ordering) → is_lt first ≡ true
-    → is_lt (ordering_then first rest) ≡ true
-first_decides Less rest is = refl
-first_decides Equal rest is = absurd (false≢true is)
-first_decides Greater rest is = absurd (false≢true is)
-
-first_allows : (first rest : Ordering) → is_lt (ordering_then first rest) ≡ true
-    → (is_lt first || is_eq first) ≡ true
-first_allows Less rest is = refl
-first_allows Equal rest is = refl
-first_allows Greater rest is = absurd (false≢true is)
 
 -- each club with more points comes before
 pub behind_by_points : (sheet : Sheet) (season : Results) (lots : List ℕ) (club : ℕ)
@@ -150,7 +94,3 @@ before_by_points sheet season lots club tier both limits below is union =
     together : (a b c : Bool) → ((a && b) || (a && c)) ≡ (a && (b || c))
     together true b c = refl
     together false b c = refl
-
--- a greater number is not among the first so many
-pub no_le : (m n : ℕ) → n < m → nat_le m n ≡ false
-no_le m n less = grind (arith, nat_tests)

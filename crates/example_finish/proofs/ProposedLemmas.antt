@@ -1,9 +1,8 @@
 -- The proposed finish, fixture by fixture.
 use Rattle.std.proofs.Math.Nat.{eq-or-lt_of_le}
-use Rattle.std.proofs.Common.{false, inl, inr, ◌≡◌, ◌<◌, ◌+◌, ℕ, zero, suc, Bool, true, List}
-use Rattle.std.proofs.Common.{[], ◌∷◌}
-use Rattle.std.proofs.Common.{Option, Some, None, IsSome, is_some, length, get_or, set}
-use Rattle.std.proofs.Common.{refl, sym, ap, ap₂, subst, ◌∙◌, arith}
+use Rattle.std.proofs.Common.{false, inl, inr, ◌≡◌, ◌<◌, ◌+◌, ℕ, zero, suc, Bool, true, List, []}
+use Rattle.std.proofs.Common.{◌∷◌, Option, Some, None, IsSome, is_some, length, get_or, set, refl}
+use Rattle.std.proofs.Common.{sym, ap, ap₂, subst, ◌∙◌, arith}
 use Rattle.std.specs.List.{list_all}
 use Rattle.std.proofs.lemmas.Bool.{false≢true, and_parts, cases_eq}
 use Rattle.std.proofs.lemmas.List.{ext_get_or, get_or-set_same, get_or-set_other, length-set}
@@ -19,7 +18,6 @@ use Rattle.league_core.specs.game.Finishes.{may_end}
 use Rattle.league_core.specs.search.Options.{meets, options_of, options_in, has_option, has_finish}
 use Rattle.league_core.specs.search.Proposals.{is_wished, first_option, first_options}
 use Rattle.league_core.specs.search.Proposals.{proposed_finish}
-use Rattle.league_core.proofs.PlainLemmas.{list_all-at}
 use Rattle.league_core.proofs.OptionLemmas.{length-options_from, get_or-options_from}
 use Rattle.league_core.proofs.OptionLemmas.{has_score-options_of}
 use Rattle.league_core.proofs.ProposalLemmas.{is_some-first_option, first_option_is}
@@ -32,6 +30,8 @@ use Rattle.example_finish.specs.declared.outcome.Outcome.{Outcome}
 use Rattle.example_finish.specs.inside.FirstOutcomes.{IsOutcomeOf, HasOutcome}
 use Rattle.example_finish.specs.inside.Wished.{has_wish, AreWishesOf}
 use Rattle.example_finish.proofs.UnplayedLemmas.{each_fixture}
+use Rattle.league_core.proofs.plain.Lists.{list_all-at}
+use Rattle.league_core.proofs.plain.Options.{some_is}
 
 -- if the zone has a finish each fixture has an option
 has_option-at : (sheet : Sheet) (season : Results) (zone : List Literal) (k : ℕ)
@@ -40,10 +40,6 @@ has_option-at : (sheet : Sheet) (season : Results) (zone : List Literal) (k : �
 has_option-at sheet season zone k some within =
     let long = length-options_from sheet.goal_limit zone 0 season.scores in
     literals.option_at sheet season zone k some (omega (arith, long))
-
-some_is : {X : Type 0} (o : Option X) → is_some o ≡ true → IsSome o
-some_is None is = absurd (false≢true is)
-some_is (Some x) is = refl
 
 -- so a first one
 pub option_is_there : (sheet : Sheet) (season : Results) (zone : List Literal) (k : ℕ)

@@ -1,26 +1,20 @@
 -- What a record adds to a sheet so far keeps it within the limits.
-use Rattle.std.proofs.Common.{◌≡◌, ℕ, ◌+◌, ◌<◌, Bool, true, false, not, ◌&&◌, ◌||◌, ◌==◌, nat_lt}
-use Rattle.std.proofs.Common.{nat_le, nat_eq, List, [], ◌∷◌, ◌++◌, length, map, Ok, bytes_eq, refl}
-use Rattle.std.proofs.Common.{sym, ap, subst, ◌∙◌, arith}
-use Rattle.std.specs.List.{list_all, list_any}
+use Rattle.std.proofs.Common.{◌≡◌, ℕ, ◌+◌, ◌<◌, Bool, true, false, not, ◌||◌, ◌==◌, nat_lt, nat_le}
+use Rattle.std.proofs.Common.{nat_eq, List, [], ◌∷◌, ◌++◌, length, map, Ok, bytes_eq, refl, sym, ap}
+use Rattle.std.proofs.Common.{subst, ◌∙◌, arith}
+use Rattle.std.specs.List.{list_any}
 use Rattle.std.proofs.lemmas.Bool.{and_parts, and_from, or_from, or_parts, not-true, not_from_false}
-use Rattle.std.proofs.lemmas.Bool.{ltb-false}
 use Rattle.std.proofs.lemmas.List.{length_push}
-use Rattle.std.proofs.lemmas.List.Folds.{list_all-append, list_any-append}
+use Rattle.std.proofs.lemmas.List.Folds.{list_any-append}
 use Rattle.league_core.specs.declared.sheet.Sheet.{Sheet}
 use Rattle.league_core.specs.declared.sheet.Club.{Club}
 use Rattle.league_core.specs.game.Limits.{most_clubs, most_lines}
 use Rattle.league_core.specs.game.Sheets.{is_club, is_line, are_different, same_name}
 use Rattle.fixture_sheet.specs.inside.Drafts.{IsDraft}
 use Rattle.fixture_sheet.specs.Records.{has_name, is_past_clubs, line_added}
-use Rattle.fixture_sheet.proofs.NameLemmas.{bytes_eq-swap}
-
--- a list that passes, with one more that does
-list_all-push : {A : Type 0} (p : A → Bool) (xs : List A) (y : A) → list_all p xs ≡ true
-    → p y ≡ true → list_all p (xs ++ y ∷ []) ≡ true
-list_all-push p xs y all one =
-    list_all-append p xs (y ∷ []) ∙ and_from (list_all p xs) (p y && true) all
-    (and_from (p y) true one refl)
+use Rattle.league_core.proofs.plain.Texts.{bytes_eq-swap}
+use Rattle.league_core.proofs.plain.Lists.{list_all-push}
+use Rattle.league_core.proofs.plain.Parts.{nothing-in}
 
 -- a list of different ones, with one more that is like none of them
 are_different-push : {A : Type 0} (same : A → A → Bool) (xs : List A) (y : A)
@@ -37,11 +31,6 @@ are_different-push same (x ∷ xs) y different fresh =
     and_from (not (list_any (same x) (xs ++ y ∷ []))) (are_different same (xs ++ y ∷ []))
     (not_from_false (list_any (same x) (xs ++ y ∷ [])) none)
     (are_different-push same xs y parts.1 news.1)
-
--- a list with nothing in it
-nothing-in : {A : Type 0} (xs : List A) → nat_lt 0 (length xs) ≡ false → xs ≡ []
-nothing-in [] none = refl
-nothing-in (x ∷ xs) none = absurd (omega (arith, ltb-false 0 (length (x ∷ xs)) none))
 
 -- a name that no club has is like none of theirs
 fresh-name : (clubs : List Club) (club : Club)

@@ -1,6 +1,5 @@
 pub mod FieldLemmas
 pub mod TextLemmas
-pub mod NameLemmas
 pub mod DraftLemmas
 pub mod ReadingLemmas
 pub mod LineLemmas

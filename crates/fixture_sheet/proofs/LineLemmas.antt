@@ -16,6 +16,7 @@ use Rattle.csv.specs.declared.parser.Action.TheVariants as action
 use Rattle.csv.specs.declared.parser.Terminator.TheVariants as terminator
 use Rattle.port_core.specs.Lines.{HasNoLineFeed}
 use Rattle.fixture_sheet.specs.inside.Laws.{LinesAreOneRecord}
+use Rattle.league_core.proofs.plain.Lists.{list_any-cond}
 
 -- of two choices neither ends a record
 goes-if : (test : Bool) (x y : State × Action) → is_end x.1 ≡ false → is_end y.1 ≡ false
@@ -91,12 +92,6 @@ read-whole (byte ∷ rest) returns feeds s fields field read is =
     (next_record default_config next.0 (fields_after next.1 fields field)
     (field_after next.1 byte field) rest)) (step-goes byte return.0 feed.0 s)) ∙ is)
 
--- one of two texts, each without such a byte
-any-cond : (p : ℕ → Bool) (test : Bool) (first second : List ℕ) → list_any p first ≡ false
-    → list_any p second ≡ false → list_any p (cond test first second) ≡ false
-any-cond p true first second none_first none_second = none_first
-any-cond p false first second none_first none_second = none_second
-
 -- a text without such a byte has none without its mark either
 strip_bom-none : (p : ℕ → Bool) (text : List ℕ) → list_any p text ≡ false
     → list_any p (strip_bom text) ≡ false
@@ -108,7 +103,7 @@ strip_bom-none p (a ∷ b ∷ c ∷ rest) none =
     let first = or_parts (p a) (p b || (p c || list_any p rest)) none in
     let second = or_parts (p b) (p c || list_any p rest) first.1 in
     let third = or_parts (p c) (list_any p rest) second.1 in
-    any-cond p (is_bom a b c) rest (a ∷ b ∷ c ∷ rest) third.1 none
+    list_any-cond p (is_bom a b c) rest (a ∷ b ∷ c ∷ rest) third.1 none
 
 -- no byte of the text is an LF
 no_line_feed : (text : List ℕ) → HasNoLineFeed text → list_any (λ byte. byte == 10) text ≡ false

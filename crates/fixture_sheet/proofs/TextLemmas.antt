@@ -1,33 +1,17 @@
 -- Lemmas on numbers.
-use Rattle.std.proofs.Common.{◌≡◌, ℕ, zero, suc, ◌-◌, ◌^◌, ◌<◌, ◌≤◌, Bool, true, ◌&&◌, nat_le, List}
-use Rattle.std.proofs.Common.{[], ◌∷◌, length, take, get_or, refl, arith, lit<}
+use Rattle.std.proofs.Common.{◌≡◌, ℕ, ◌-◌, ◌^◌, ◌<◌, ◌≤◌, true, ◌&&◌, nat_le, List, length, take}
+use Rattle.std.proofs.Common.{get_or, arith, lit<}
 use Rattle.std.specs.List.{list_all}
 use Rattle.std.specs.Char.{is_ascii_digit, digit_value}
-use Rattle.std.specs.Str.Parse.{digits_value, AllDigits}
+use Rattle.std.specs.Str.Parse.{digits_value}
 use Rattle.std.proofs.lemmas.Bool.{and_parts, leb-true}
-use Rattle.std.proofs.lemmas.Bool.Decides.{nat_tests}
 use Rattle.std.proofs.lemmas.List.{length-take-le}
 use Rattle.std.proofs.lemmas.Int.Digits.{digits_value-lt}
 use Rattle.std.proofs.Math.Nat.{pow-le-pow_right}
 use Rattle.fixture_sheet.specs.Texts.{is_number}
-use Rattle.league_core.proofs.PlainLemmas.{list_all-at}
-
--- a prefix of a list that passes passes
-list_all-take : {X : Type 0} (p : X → Bool) (i : ℕ) (xs : List X) → list_all p xs ≡ true
-    → list_all p (take i xs) ≡ true
-list_all-take p zero xs all = refl
-list_all-take p (suc i) [] all = refl
-list_all-take p (suc i) (x ∷ xs) all =
-    let parts = and_parts (p x) (list_all p xs) all in
-    rw (parts.0, list_all-take p i xs parts.1) refl
-
--- a digit's value is below ten
-digit_value-lt : (byte : ℕ) → is_ascii_digit byte ≡ true → digit_value byte < 10
-digit_value-lt byte digit = grind (arith, nat_tests)
-
--- a digit writes how far it comes after `0`
-digit_value-from : (byte : ℕ) → is_ascii_digit byte ≡ true → digit_value byte ≡ byte - 48
-digit_value-from byte digit = grind (arith, nat_tests)
+use Rattle.league_core.proofs.plain.Lists.{list_all-at}
+use Rattle.league_core.proofs.plain.Texts.{AllDigits-from, digit_value-from}
+use Rattle.league_core.proofs.plain.Parts.{list_all-take}
 
 -- each byte of a number does
 pub digit_value-at : (text : List ℕ) (i : ℕ) → is_number text ≡ true → i < length text
@@ -36,13 +20,6 @@ digit_value-at text i number inside =
     let parts = and_parts (nat_le 1 (length text) && nat_le (length text) 6)
     (list_all is_ascii_digit text) number in
     digit_value-from (get_or text i 0) (list_all-at is_ascii_digit text i 0 inside parts.1)
-
--- digits are digits
-AllDigits-from : (text : List ℕ) → list_all is_ascii_digit text ≡ true → AllDigits 10 text
-AllDigits-from [] all = tt
-AllDigits-from (byte ∷ text) all =
-    let parts = and_parts (is_ascii_digit byte) (list_all is_ascii_digit text) all in
-    (digit_value-lt byte parts.0, AllDigits-from text parts.1)
 
 -- the first digits of a number, but for the last, are less than 100,000
 pub digits_value-take-lt : (text : List ℕ) (i : ℕ) → is_number text ≡ true → i < length text

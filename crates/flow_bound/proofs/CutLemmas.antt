@@ -1,9 +1,8 @@
 -- A set of marked clubs with an excess is a cut, and if none has an excess there is no cut.
-use Rattle.std.proofs.Common.{◌≡◌, ℕ, suc, ℤ, pos, ◌+ℤ◌, ◌-ℤ◌, ◌*ℤ◌}
-use Rattle.std.proofs.Common.{◌≤ℤ◌, ◌<ℤ◌, Bool, true, false, ◌&&◌, List, [], ◌∷◌}
-use Rattle.std.proofs.Common.{length, Option, Some, None, refl, sym, ap, ◌∙◌, inl, inr}
-use Rattle.std.proofs.Common.{arith}
-use Rattle.std.specs.Prelude.{IfSome, MatchOption, int_lt}
+use Rattle.std.proofs.Common.{◌≡◌, ℕ, suc, ℤ, pos, ◌+ℤ◌, ◌-ℤ◌, ◌*ℤ◌, ◌≤ℤ◌, ◌<ℤ◌, Bool, true, false}
+use Rattle.std.proofs.Common.{◌&&◌, List, [], ◌∷◌, length, Option, Some, None, refl, sym, ap, ◌∙◌}
+use Rattle.std.proofs.Common.{inl, inr, arith}
+use Rattle.std.specs.Prelude.{IfSome, MatchOption}
 use Rattle.std.specs.List.{list_all}
 use Rattle.std.proofs.lemmas.Int.{ints}
 use Rattle.std.proofs.lemmas.Bool.{and_from}
@@ -28,6 +27,7 @@ use Rattle.flow_bound.specs.inside.Parts.{HasNoExcess, IsAnsweredSet, side_of}
 use Rattle.flow_bound.proofs.PartLemmas.{excess_in-empty}
 use Rattle.flow_bound.proofs.ChosenLemmas.{GivesExcess, alone_is, marked_part, part_marked}
 use Rattle.flow_bound.proofs.ChosenLemmas.{one_marked, chosen_is}
+use Rattle.league_core.proofs.plain.Numbers.{int_lt-gap, int_lt-no_gap}
 
 -- an answer is a set of marked clubs with an excess
 pub answer_exceeds : (table : List ℤ) (pairs : List Pair) (rivals : ClubSet) (marked : ℕ → Bool)
@@ -103,12 +103,6 @@ high_excess-is sheet season question zone level clubs is =
     let same = ap (times clubs) is in
     omega (arith, ints)
 
-above : (a b : ℤ) → pos 0 <ℤ (b -ℤ a) → int_lt a b ≡ true
-above a b h = grind (arith, ints)
-
-not_above : (a b : ℤ) → (b -ℤ a) ≤ℤ pos 0 → int_lt a b ≡ false
-not_above a b h = grind (arith, ints)
-
 -- a set of marked clubs with an excess has the reason
 pub floor_holds : (sheet : Sheet) (season : Results) (question : Question) (zone : List Literal)
     (set : ClubSet) → has_finish sheet season zone ≡ true → has_member (clubs_in set) ≡ true
@@ -120,7 +114,7 @@ floor_holds sheet season question zone set finish member all exceeds =
     and_from (has_finish sheet season zone) _ finish
     (and_from (has_member (clubs_in set) && list_all (marked_after zone) (clubs_in set)) _
     (and_from (has_member (clubs_in set)) _ member all)
-    (above (times (clubs_in set) (own_most sheet season question zone))
+    (int_lt-gap (times (clubs_in set) (own_most sheet season question zone))
     (least_points_of sheet season zone (clubs_in set)) exceeds))
 
 pub ceiling_holds : (sheet : Sheet) (season : Results) (question : Question) (zone : List Literal)
@@ -133,7 +127,7 @@ ceiling_holds sheet season question zone set finish member all exceeds =
     and_from (has_finish sheet season zone) _ finish
     (and_from (has_member (clubs_in set) && list_all (marked_before zone) (clubs_in set)) _
     (and_from (has_member (clubs_in set)) _ member all)
-    (above (most_points_of sheet season zone (clubs_in set))
+    (int_lt-gap (most_points_of sheet season zone (clubs_in set))
     (times (clubs_in set) (own_least sheet season question zone)) exceeds))
 
 no_reason : (finish member all over : Bool) → (all ≡ true → over ≡ false)
@@ -152,7 +146,7 @@ unfolding has_reason
 floor_fails sheet season question zone set none =
     no_reason (has_finish sheet season zone) (has_member (clubs_in set))
     (list_all (marked_after zone) (clubs_in set)) _
-    (λ all. not_above (times (clubs_in set) (own_most sheet season question zone))
+    (λ all. int_lt-no_gap (times (clubs_in set) (own_most sheet season question zone))
     (least_points_of sheet season zone (clubs_in set)) (none all))
 
 pub ceiling_fails : (sheet : Sheet) (season : Results) (question : Question) (zone : List Literal)
@@ -163,7 +157,7 @@ unfolding has_reason
 ceiling_fails sheet season question zone set none =
     no_reason (has_finish sheet season zone) (has_member (clubs_in set))
     (list_all (marked_before zone) (clubs_in set)) _
-    (λ all. not_above (most_points_of sheet season zone (clubs_in set))
+    (λ all. int_lt-no_gap (most_points_of sheet season zone (clubs_in set))
     (times (clubs_in set) (own_least sheet season question zone)) (none all))
 
 -- what is found is a floor cut

@@ -1,8 +1,7 @@
 -- What a fixture adds to the excess of a side, and that all fixtures together add the whole.
-use Rattle.std.proofs.Common.{◌≡◌, ◌≢◌, ℕ, zero, suc, ◌+◌, ◌<◌, ◌≤◌, ℤ, pos, ◌+ℤ◌, ◌-ℤ◌}
-use Rattle.std.proofs.Common.{◌*ℤ◌, true, not, ◌&&◌, ◌==◌, nat_lt, cond}
-use Rattle.std.proofs.Common.{List, [], ◌∷◌, length, get_or, slice_index}
-use Rattle.std.proofs.Common.{refl, sym, ap, ◌∙◌, arith, add-one}
+use Rattle.std.proofs.Common.{◌≡◌, ◌≢◌, ℕ, zero, suc, ◌+◌, ◌<◌, ◌≤◌, ℤ, pos, ◌+ℤ◌, ◌-ℤ◌, ◌*ℤ◌, true}
+use Rattle.std.proofs.Common.{not, ◌&&◌, ◌==◌, nat_lt, cond, List, [], ◌∷◌, length, get_or}
+use Rattle.std.proofs.Common.{slice_index, refl, sym, ap, ◌∙◌, arith, add-one, take}
 use Rattle.std.proofs.lemmas.Int.{ints}
 use Rattle.std.specs.List.{list_all}
 use Rattle.std.proofs.lemmas.Bool.{false≢true, and_parts, ltb-true, ne_eqb}
@@ -19,8 +18,7 @@ use Rattle.league_core.specs.game.Sums.{has_club}
 use Rattle.league_core.specs.game.ClubSets.{clubs_below, clubs_in}
 use Rattle.league_core.specs.search.Options.{options_in, has_finish}
 use Rattle.league_core.specs.search.PointRanges.{Range, one_value, added, range_of, total_of}
-use Rattle.league_core.specs.search.PointRanges.{range_from, points_together}
-use Rattle.league_core.specs.search.PointRanges.{deducted_from}
+use Rattle.league_core.specs.search.PointRanges.{range_from, points_together, deducted_from}
 use Rattle.league_core.specs.search.Reasons.{times}
 use Rattle.league_core.proofs.ClubSetLemmas.{clubs_below-none}
 use Rattle.league_core.proofs.OptionLemmas.{length-options_from}
@@ -32,17 +30,16 @@ use Rattle.score_box.specs.inside.Cells.{IsCellOf}
 use Rattle.flow_bound.specs.declared.cut.Cut.{Cut}
 use Rattle.flow_bound.specs.declared.cut.Cut.TheVariants.{Floor, Ceiling}
 use Rattle.flow_bound.specs.declared.tally.Pair.{Pair}
-use Rattle.flow_bound.specs.inside.Fixtures.{MatchWorth}
+use Rattle.flow_bound.specs.inside.Fixtures.{MatchWorth, end_of, own_end, beyond_in, beyond_over}
+use Rattle.flow_bound.specs.inside.Fixtures.{excess_over, IsWorthOf}
 use Rattle.flow_bound.specs.inside.Parts.{sum_below, entry, sum_of_side, sum_of_pairs, has_both}
 use Rattle.flow_bound.specs.inside.Parts.{excess_in, side_of}
 use Rattle.score_box.specs.inside.Unplayed.{unplayed_in}
 use Rattle.score_box.specs.inside.Ends.{alone_over}
-use Rattle.score_box.proofs.SplitLemmas.{IsEnd, set_split, keeps_played, beyond_at}
-use Rattle.score_box.proofs.SplitLemmas.{beyond_of_sides, no_match, total_take}
-use Rattle.std.proofs.Common.{take}
-use Rattle.flow_bound.specs.inside.Fixtures.{end_of, own_end, beyond_in, beyond_over, excess_over}
-use Rattle.flow_bound.specs.inside.Fixtures.{IsWorthOf}
-use Rattle.flow_bound.proofs.PartLemmas.{sum_below-same, cond_pos}
+use Rattle.score_box.proofs.SplitLemmas.{IsEnd, set_split, keeps_played, beyond_at, beyond_of_sides}
+use Rattle.score_box.proofs.SplitLemmas.{no_match, total_take}
+use Rattle.flow_bound.proofs.PartLemmas.{sum_below-same}
+use Rattle.league_core.proofs.plain.Numbers.{cond_pos}
 
 -- points count for a floor cut, and against a ceiling cut
 abbrev pub counted : Cut → ℤ → ℤ

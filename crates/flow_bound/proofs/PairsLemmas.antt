@@ -1,8 +1,7 @@
 -- The pairs of a box: one for each match that is not played, and together what the excess of a set
 -- has beyond that of its clubs alone.
-use Rattle.std.proofs.Common.{◌≡◌, ◌≢◌, ℕ, suc, ◌<◌, ℤ, pos, negsuc, ◌+ℤ◌, ◌-ℤ◌, ◌≤ℤ◌}
-use Rattle.std.proofs.Common.{Bool, true, false, ◌&&◌, cond, List, []}
-use Rattle.std.proofs.Common.{◌∷◌, length, get_or, map, refl, sym, ap}
+use Rattle.std.proofs.Common.{◌≡◌, ◌≢◌, ℕ, suc, ◌<◌, ℤ, pos, negsuc, ◌+ℤ◌, ◌-ℤ◌, ◌≤ℤ◌, Bool, true}
+use Rattle.std.proofs.Common.{false, ◌&&◌, cond, List, [], ◌∷◌, length, get_or, map, refl, sym, ap}
 use Rattle.std.proofs.Common.{◌∙◌, arith}
 use Rattle.std.specs.List.{All}
 use Rattle.std.proofs.lemmas.Int.{ints}
@@ -32,7 +31,8 @@ use Rattle.flow_bound.specs.inside.Fixtures.{MatchWorth, IsWorthOf, above_nothin
 use Rattle.flow_bound.specs.inside.Fixtures.{end_of, pair_at, pairs_in, surplus_in}
 use Rattle.flow_bound.specs.inside.Parts.{has_both, side_of, sum_of_pairs}
 use Rattle.flow_bound.proofs.FixtureLemmas.{beyond_over-is, is_end}
-use Rattle.flow_bound.proofs.PartLemmas.{cond_pos, sum_of_pairs-cons}
+use Rattle.flow_bound.proofs.PartLemmas.{sum_of_pairs-cons}
+use Rattle.league_core.proofs.plain.Numbers.{cond_pos}
 
 -- what options come to for the sides that count
 abbrev pub at_sides : Cut → List Score → Bool → Bool → ℤ

@@ -1,15 +1,16 @@
 -- The parts of an excess: sums over clubs and over pairs, and what a credit adds to them.
 use Rattle.std.proofs.Common.{◌≡◌, ◌≢◌, ◌⊎◌, ℕ, zero, suc, ◌+◌, ◌<◌, ◌≤◌, ℤ, pos, neg_ℤ, ◌+ℤ◌, ◌≤ℤ◌}
-use Rattle.std.proofs.Common.{Bool, true, false, ◌&&◌, cond, eqb, List, [], ◌∷◌, ◌++◌, length, set}
-use Rattle.std.proofs.Common.{refl, sym, ap, ◌∙◌, subst, inl, inr, arith, add-one}
+use Rattle.std.proofs.Common.{Bool, true, false, ◌&&◌, cond, eqb, List, [], ◌∷◌, length, set, refl}
+use Rattle.std.proofs.Common.{sym, ap, ◌∙◌, subst, inl, inr, arith, add-one}
 use Rattle.std.proofs.lemmas.Int.{ints}
-use Rattle.std.proofs.lemmas.Bool.{false≢true, cases_eq, eq-eqb, ne_eqb}
+use Rattle.std.proofs.lemmas.Bool.{cases_eq, eq-eqb, ne_eqb}
 use Rattle.std.proofs.lemmas.List.{length-set, get_or-set_same, get_or-set_other}
 use Rattle.std.proofs.lemmas.List.Sums.{sum_by-cons}
 use Rattle.flow_bound.specs.declared.tally.Pair.{Pair}
 use Rattle.flow_bound.specs.inside.Parts.{sum_below, entry, sum_of_side, sum_of_pairs, has_both}
 use Rattle.flow_bound.specs.inside.Parts.{excess_in, ArePairs, IsClubTable}
 use Rattle.flow_bound.specs.inside.Network.{has_home_in, has_away_in}
+use Rattle.league_core.proofs.plain.Numbers.{cond_pos}
 
 -- values that agree below a count have one sum
 pub sum_below-same : (count : ℕ) (value other : ℕ → ℤ)
@@ -214,11 +215,6 @@ excess_in-empty table pairs side none =
         let clubs = sum_below-none 32 in
         let pairs_none = no_pair pairs in
         omega (arith, ints)
-
--- a number that counts or not
-pub cond_pos : (b : Bool) (n : ℕ) → cond b (pos n) (pos 0) ≡ pos (cond b n 0)
-cond_pos true n = refl
-cond_pos false n = refl
 
 -- the surplus of a pair of a part goes to the home club's entry
 pub home_credited : (table new : List ℤ) (pair : Pair) (amount : ℤ) (part side : ℕ → Bool)

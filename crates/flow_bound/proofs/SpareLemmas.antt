@@ -7,19 +7,17 @@ use Rattle.flow_bound.specs.declared.tally.Pair.{Pair}
 use Rattle.flow_bound.specs.inside.Parts.{entry, sum_below, sum_of_side, sum_of_pairs, has_both}
 use Rattle.flow_bound.specs.inside.Parts.{in_both, IsFirstOver, IsPartOf, KeepsExcess, NoneOver}
 use Rattle.flow_bound.specs.inside.Network.{has_home_in, has_away_in}
-use Rattle.flow_bound.proofs.PartLemmas.{sum_below-same, sum_below-plus, sum_below-low, cond_pos}
+use Rattle.flow_bound.proofs.PartLemmas.{sum_below-same, sum_below-plus, sum_below-low}
 use Rattle.flow_bound.proofs.PartLemmas.{sum_below-none, sum_below-one, sum_of_pairs-cons}
 use Rattle.flow_bound.proofs.PartLemmas.{excess_in-same}
 use Rattle.flow_bound.proofs.PeelLemmas.{dropped, clubs_kept, pairs_kept, KeepsExcess-all}
-
-either : (b : Bool) → cond b (pos 0) (pos 0) ≡ pos 0
-either true = refl
-either false = refl
+use Rattle.league_core.proofs.plain.Numbers.{cond_pos}
+use Rattle.league_core.proofs.plain.TruthValues.{cond_same}
 
 nothing_below : (side : ℕ → Bool) → sum_below 32 (λ x. cond (side x) (pos 0) (pos 0)) ≡ pos 0
 nothing_below side =
     sum_below-same 32 (λ x. cond (side x) (pos 0) (pos 0)) (λ x. pos 0)
-    (λ x below. either (side x)) ∙ sum_below-none 32
+    (λ x below. cond_same (side x) (pos 0)) ∙ sum_below-none 32
 
 -- a number that counts at one club, over a side
 one_club : (at number : ℕ) (side : ℕ → Bool) → at < 32
@@ -41,7 +39,7 @@ one_club at number side low =
         ∙ ap (λ b. cond b (pos (cond (side at) number 0)) (pos 0)) (sym (eq-eqb at x same))
     here x (inr apart) =
         ap (λ b. cond (side x) (pos (cond b number 0)) (pos 0)) (ne_eqb at x apart)
-        ∙ either (side x)
+        ∙ cond_same (side x) (pos 0)
         ∙ ap (λ b. cond b (pos (cond (side at) number 0)) (pos 0)) (sym (ne_eqb at x apart))
 
 -- a pair in the part of which one club, by its end, is on a side

@@ -1,7 +1,6 @@
 -- What a fixture is worth to a cut: the points of both sides together lie beyond those of each side
 -- alone, and what lies beyond is the surplus.
-use Rattle.std.proofs.Common.{◌≡◌, ℕ, ◌+◌, ◌-◌, ◌≤◌, max, pos, ◌-ℤ◌, ◌≤ℤ◌, Bool, true}
-use Rattle.std.proofs.Common.{false, ◌&&◌}
+use Rattle.std.proofs.Common.{◌≡◌, ℕ, ◌+◌, ◌-◌, ◌≤◌, max, pos, ◌-ℤ◌, ◌≤ℤ◌, Bool, true, false, ◌&&◌}
 use Rattle.std.proofs.Common.{◌==◌, nat_le, nat_lt, cond, List, [], ◌∷◌, filter, sym, ap, refl, ◌∙◌}
 use Rattle.std.proofs.Common.{subst, arith}
 use Rattle.std.specs.Int.{int_min, int_max}
@@ -23,6 +22,7 @@ use Rattle.score_box.proofs.BoxLemmas.{option_of_cell}
 use Rattle.flow_bound.specs.declared.cut.Cut.{Cut}
 use Rattle.flow_bound.specs.declared.cut.Cut.TheVariants.{Floor, Ceiling}
 use Rattle.flow_bound.specs.inside.Fixtures.{MatchWorth, end_of, worth_of_sides, IsWorthOf}
+use Rattle.league_core.proofs.plain.TruthValues.{and_implied}
 
 -- the scores of a cell, listed
 options_for : Cell → List Score
@@ -36,17 +36,12 @@ within_most least most limit goals below is =
     let at_most = leb-true goals most parts.1 in
     le-leb goals limit (omega arith)
 
--- what follows from a fact changes nothing beside it
-beside : (b c : Bool) → (b ≡ true → c ≡ true) → b ≡ (b && c)
-beside true c follows = sym (follows refl)
-beside false c follows = refl
-
 -- they are the cell's scores, and no others
 is_cell-options : (cell : Cell) → IsCellOf cell (options_for cell)
 unfolding options_for
 is_cell-options cell score =
     let limit = max cell.home_most cell.away_most in
-    beside (allows cell score) (nat_le score.home limit && nat_le score.away limit) up_to
+    and_implied (allows cell score) (nat_le score.home limit && nat_le score.away limit) up_to
     ∙ sym (ap (λ b. allows cell score && b) (has_score-scores_up_to limit score))
     ∙ sym (any-filter_same (same_score score) (allows cell) (allows cell score)
     (λ other same. ap (allows cell) (sym (same_score-true score other same)))

@@ -18,7 +18,7 @@ use Rattle.flow_net.proofs.ShareLemmas.{share}
 use Rattle.flow_net.proofs.CapacityLemmas.{carried-le-limit, carried_full, carried_none}
 use Rattle.flow_net.proofs.CapacityLemmas.{full_from_carried, none_from_carried}
 use Rattle.flow_net.proofs.SideLemmas.{over-but_one, over-carried}
-use Rattle.league_core.proofs.PlainLemmas.{eqb-swap}
+use Rattle.league_core.proofs.plain.Numbers.{eqb-swap}
 
 -- the arc leads into the side
 abbrev pub comes_back : (ℕ → Bool) → Arc → Bool

@@ -1,7 +1,6 @@
 -- Checks of an input: what was written, from what the input comes to.
-use Rattle.std.proofs.Common.{◌≡◌, ℕ, List, [], Option, Some, None, Ok, refl, ap}
-use Rattle.std.proofs.Common.{◌∙◌}
-use Rattle.std.specs.Io.KnownBytes.{prepend_known, IsAtEnd}
+use Rattle.std.proofs.Common.{◌≡◌, ℕ, List, [], Option, Some, None, Ok, refl, ◌∙◌}
+use Rattle.std.specs.Io.KnownBytes.{IsAtEnd}
 use Rattle.port_core.specs.Contents.{start, contents_of}
 use Rattle.port_core.specs.Readers.{LineReaderView, contents_to_come, TakesInput}
 use Rattle.cert_check.specs.declared.outcome.CheckOutcome.{CheckOutcome}
@@ -14,7 +13,7 @@ use Rattle.futmax_main.specs.declared.status.Status.TheVariants.{NotProved, TooL
 use Rattle.futmax_main.specs.Checks.{ComesTo, ServesCheck, check_row, status_of_check}
 use Rattle.futmax_main.specs.inside.Judging.{OutcomeEnds}
 use Rattle.futmax_main.proofs.TurnLemmas.{fresh-contents}
-use Rattle.answer_rows.proofs.OutputLemmas.{append_known-nothing}
+use Rattle.league_core.proofs.plain.Streams.{append_known-nothing, nothing_left}
 
 -- no outcome is a fault of the source
 not_a_fault : (outcome : CheckOutcome) → status_of_check outcome ≡ ReadFault → ⊥
@@ -24,12 +23,6 @@ not_a_fault (outcome.BadSheet number fault) is = cc
 not_a_fault (outcome.BadFeed number fault) is = cc
 not_a_fault (outcome.LineTooLong number) is = cc
 not_a_fault (outcome.InputTooLong number) is = cc
-
--- an input that a source told has told bytes left
-told-left : (input bytes : List ℕ) (left : Option (List ℕ))
-    → Some input ≡ prepend_known bytes left → IsAtEnd left → left ≡ Some []
-told-left input bytes None is at_end = cc
-told-left input bytes (Some rest) is at_end = ap Some at_end
 
 -- where a report is accepted, nothing is left
 accepted-end : (outcome : CheckOutcome) (new : LineReaderView) (left : Option (List ℕ))
@@ -77,7 +70,7 @@ check-serves reader new None left outcome old now status fresh checks leaves tak
 check-serves reader new (Some input) left outcome old now status fresh checks leaves takes ends =
     check-ends input left outcome old now status
     (checks (contents_of input) (fresh-contents reader (Some input) fresh))
-    (λ is. told-left input takes.0 left takes.1 (accepted-end outcome new left is leaves)) ends
+    (λ is. nothing_left input takes.0 left takes.1 (accepted-end outcome new left is leaves)) ends
 
 -- a fault of the source, which leaves no text
 pub check-fails : (input left old : Option (List ℕ))

@@ -1,10 +1,8 @@
 -- How a session ends: at a fault of its input, or while an answer is written.
-use Rattle.std.proofs.Common.{◌≡◌, ℕ, Bool, List, [], ◌∷◌, ◌++◌, Option, Some, ap}
-use Rattle.std.proofs.Common.{◌∙◌, subst, inl, inr}
+use Rattle.std.proofs.Common.{◌≡◌, ℕ, Bool, List, [], ◌∷◌, ◌++◌, Option, Some, ◌∙◌, subst, inl, inr}
 use Rattle.std.specs.Io.KnownBytes.{append_known}
 use Rattle.std.proofs.lemmas.List.{append-nil}
 use Rattle.port_core.specs.Ports.{IsBytePrefix}
-use Rattle.port_core.proofs.RowLemmas.{append_known-append_known}
 use Rattle.futmax_main.specs.declared.status.Status.{Status}
 use Rattle.futmax_main.specs.declared.status.Status.TheVariants.{Done, BadWords, BadSheet, BadFeed}
 use Rattle.futmax_main.specs.declared.status.Status.TheVariants.{ReadFault, WriteFault, OutOfMemory}
@@ -26,6 +24,7 @@ use Rattle.futmax_main.proofs.AnsweredLemmas.{answers-behind}
 use Rattle.futmax_main.proofs.TextLemmas.{Reached, front-answer, front-last, reached-answered}
 use Rattle.futmax_main.proofs.TextLemmas.{reached-front, reached-so_far, reached-status}
 use Rattle.futmax_main.proofs.TextLemmas.{reached-text}
+use Rattle.league_core.proofs.plain.Streams.{append_known-more}
 
 -- no fault of the input ends a run as done
 not_done : (cause : Cause) → status_of_cause cause ≡ Done → ⊥
@@ -40,14 +39,6 @@ not_read (cause.Sheet fault) is = cc
 not_read (cause.Feed fault) is = cc
 not_read cause.LineTooLong is = cc
 not_read cause.InputTooLong is = cc
-
--- more was written after what was written before
-pub written-more : (old now later : Option (List ℕ)) (written part : List ℕ)
-    → now ≡ append_known old written → later ≡ append_known now part
-    → later ≡ append_known old (written ++ part)
-written-more old now later written part first second =
-    second ∙ ap (λ known. append_known known part) first
-    ∙ append_known-append_known old written part
 
 -- a fault of the input comes after what was written
 abbrev pub Stopped : Mode → List ℕ → List ℕ → Fault → Type 0
@@ -73,17 +64,17 @@ fault-serves mode input written left told' old now0 now1 fault Done stopped befo
     absurd (not_done fault.cause ends.0)
 fault-serves mode input written left told' old now0 now1 fault BadWords stopped before ends = (
   written ++ fault_row fault,
-  written-more old now0 now1 written (fault_row fault) before ends.1,
+  append_known-more old now0 now1 written (fault_row fault) before ends.1,
   whole mode input written fault BadWords stopped ends.0,
 )
 fault-serves mode input written left told' old now0 now1 fault BadSheet stopped before ends = (
   written ++ fault_row fault,
-  written-more old now0 now1 written (fault_row fault) before ends.1,
+  append_known-more old now0 now1 written (fault_row fault) before ends.1,
   whole mode input written fault BadSheet stopped ends.0,
 )
 fault-serves mode input written left told' old now0 now1 fault BadFeed stopped before ends = (
   written ++ fault_row fault,
-  written-more old now0 now1 written (fault_row fault) before ends.1,
+  append_known-more old now0 now1 written (fault_row fault) before ends.1,
   whole mode input written fault BadFeed stopped ends.0,
 )
 fault-serves mode input written left told' old now0 now1 fault ReadFault stopped before ends =
@@ -91,7 +82,7 @@ fault-serves mode input written left told' old now0 now1 fault ReadFault stopped
 fault-serves mode input written left told' old now0 now1 fault WriteFault stopped before ends
     = (
       written ++ ends.0,
-      written-more old now0 now1 written ends.0 before ends.2,
+      append_known-more old now0 now1 written ends.0 before ends.2,
       reached-front mode input written (course_ended (Refused fault)) ends.0 stopped
           (front-last mode (Refused fault) ends.0 ends.1),
     )
@@ -104,12 +95,12 @@ fault-serves mode input written left told' old now0 now1 fault OutOfMemory stopp
 fault-serves mode input written left told' old now0 now1 fault NotProved stopped before ends
     = (
       written ++ fault_row fault,
-      written-more old now0 now1 written (fault_row fault) before ends.1,
+      append_known-more old now0 now1 written (fault_row fault) before ends.1,
       whole mode input written fault NotProved stopped ends.0,
     )
 fault-serves mode input written left told' old now0 now1 fault TooLong stopped before ends = (
   written ++ fault_row fault,
-  written-more old now0 now1 written (fault_row fault) before ends.1,
+  append_known-more old now0 now1 written (fault_row fault) before ends.1,
   whole mode input written fault TooLong stopped ends.0,
 )
 
@@ -171,7 +162,7 @@ ask-serves mode input written asked behind left told' old now0 now1 WriteFault t
     ends =
     let front = ends.2 in (
       written ++ front.0,
-      written-more old now0 now1 written front.0 before front.2,
+      append_known-more old now0 now1 written front.0 before front.2,
       reached-front mode input written (with_asks (asked ∷ []) behind) front.0 there
           (asked-front mode input written asked behind ends.0 front.0 there ends.1 front.1),
     )
@@ -182,7 +173,7 @@ ask-serves mode input written asked behind left told' old now0 now1 OutOfMemory 
           (with_asks (asked ∷ []) behind) there (same ∙ before)
       | inr more ↦ let front = more.2 in (
         written ++ front.0,
-        written-more old now0 now1 written front.0 before front.2,
+        append_known-more old now0 now1 written front.0 before front.2,
         reached-front mode input written (with_asks (asked ∷ []) behind) front.0 there
             (asked-front mode input written asked behind more.0 front.0 there more.1
             front.1),

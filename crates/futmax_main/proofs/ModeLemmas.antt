@@ -21,7 +21,7 @@ use Rattle.futmax_main.proofs.CheckedLemmas.{checked-not_proved, checked-too_lon
 use Rattle.futmax_main.proofs.CheckedLemmas.{pair_sheet}
 use Rattle.futmax_main.proofs.TurnLemmas.{serves-nothing}
 use Rattle.futmax_main.proofs.CheckLemmas.{check-starved}
-use Rattle.answer_rows.proofs.OutputLemmas.{append_known-nothing}
+use Rattle.league_core.proofs.plain.Streams.{append_known-nothing}
 
 -- the status of a check in which no device failed
 check-settled : (input left old now : Option (List ℕ)) (status : Status)

@@ -1,6 +1,6 @@
 -- A round of the feed: what it gives, from what was passed and what was written.
-use Rattle.std.proofs.Common.{◌≡◌, ℕ, Bool, List, [], ◌∷◌, ◌++◌, Option, Some, None}
-use Rattle.std.proofs.Common.{Result, Ok, Err, refl, ap, ap₂, sym, ◌∙◌, subst, inl}
+use Rattle.std.proofs.Common.{◌≡◌, ℕ, Bool, List, [], ◌∷◌, ◌++◌, Option, Some, None, Result, Ok}
+use Rattle.std.proofs.Common.{Err, refl, ap, ap₂, sym, ◌∙◌, subst, inl}
 use Rattle.std.specs.Prelude.{IfSome}
 use Rattle.std.specs.Io.KnownBytes.{append_known, prepend_known, IsAtEnd}
 use Rattle.std.proofs.lemmas.List.{append_assoc, append-nil}
@@ -8,8 +8,8 @@ use Rattle.league_core.specs.declared.season.Event.{Event}
 use Rattle.port_core.specs.declared.line.ReadStop.{ReadStop}
 use Rattle.port_core.specs.declared.line.ReadStop.TheVariants as stop
 use Rattle.port_core.specs.Lines.{lines_of, HasNoLineFeed}
-use Rattle.port_core.specs.Contents.{Position, start, number_at, ended, with_line}
-use Rattle.port_core.specs.Contents.{with_lines, contents_from}
+use Rattle.port_core.specs.Contents.{Position, start, number_at, ended, with_line, with_lines}
+use Rattle.port_core.specs.Contents.{contents_from}
 use Rattle.port_core.specs.Readers.{contents_after, stream_of}
 use Rattle.port_core.specs.inside.ReaderCalls.{given_by, Passes, PassesKnown}
 use Rattle.port_core.proofs.ContentLemmas.{with_lines-append}
@@ -31,8 +31,7 @@ use Rattle.futmax_main.specs.declared.run_end.RunEnd.TheVariants.{Complete, Refu
 use Rattle.futmax_main.specs.declared.session.Step.{Step}
 use Rattle.futmax_main.specs.declared.session.Step.TheVariants.{GoesOn, Ends}
 use Rattle.futmax_main.specs.Plays.{Played, played_after}
-use Rattle.futmax_main.specs.Courses.{Course, Origin, about_in, asked_at, course_ended}
-use Rattle.futmax_main.specs.Courses.{course_from}
+use Rattle.futmax_main.specs.Courses.{Course, Origin, about_in, asked_at, course_ended, course_from}
 use Rattle.futmax_main.specs.Courses.{course_of, input_fault, line_fault, outcome_at_stop}
 use Rattle.futmax_main.specs.Courses.{with_asks}
 use Rattle.futmax_main.specs.Answers.{IsAnswerTo}
@@ -40,15 +39,13 @@ use Rattle.futmax_main.specs.Texts.{AreAnswers}
 use Rattle.futmax_main.specs.Top.{Serves}
 use Rattle.futmax_main.specs.inside.Progress.{IsOriginOf, LeadsOn, Path, line_after}
 use Rattle.futmax_main.specs.inside.Stops.{FaultEnds, StopEnds, stop_of_feed}
-use Rattle.futmax_main.specs.inside.Turns.{AskEnds, AskGives}
-use Rattle.futmax_main.specs.inside.Turns.{TurnGives, reported_to}
+use Rattle.futmax_main.specs.inside.Turns.{AskEnds, AskGives, TurnGives, reported_to}
 use Rattle.futmax_main.proofs.CourseLemmas.{course-told, course-ask, course-refused}
-use Rattle.futmax_main.proofs.TextLemmas.{answers-append, answers-one, Reached, reached}
-use Rattle.futmax_main.proofs.TextLemmas.{reached-as}
-use Rattle.futmax_main.proofs.EndLemmas.{written-more, fault-serves, memory-serves, end-serves}
-use Rattle.futmax_main.proofs.EndLemmas.{ask-serves}
+use Rattle.futmax_main.proofs.TextLemmas.{answers-append, answers-one, Reached, reached, reached-as}
+use Rattle.futmax_main.proofs.EndLemmas.{fault-serves, memory-serves, end-serves, ask-serves}
 use Rattle.futmax_main.proofs.StopLemmas.{stop-stands}
 use Rattle.futmax_main.proofs.TurnLemmas.{all-contents, answers-in, turn-untold}
+use Rattle.league_core.proofs.plain.Streams.{append_known-more}
 
 -- ---- on from line to line
 
@@ -199,7 +196,7 @@ module _ (mode : Mode) (told0 told' : Bool) (to : Position) (origin : Origin)
           subst Q (told ∙ sym gives.0.1) (
             on.taken ++ (number, text) ∷ [],
             on.written ++ answer,
-            written-more old now0 now1 on.written answer on.known gives.1.2,
+            append_known-more old now0 now1 on.written answer on.known gives.1.2,
             on.passed,
             leads-asks mode on.taken number text on.written answer origin log on.way is
                 (subst P (sym line-asks) gives.1.1),

@@ -13,6 +13,7 @@ use Rattle.fixture_sheet.specs.declared.record.Progress.TheVariants.{SoFar, Whol
 use Rattle.fixture_sheet.specs.Records.{content_taken}
 use Rattle.fixture_sheet.specs.Sheets.{SheetReading, sheet_reading_by, sheet_reading_from}
 use Rattle.fixture_sheet.specs.Sheets.{sheet_reading_of}
+use Rattle.league_core.proofs.plain.Parts.{none-left}
 
 -- a sheet was read, and these contents come after it
 abbrev pub read_up_to : Sheet → Contents → SheetReading
@@ -50,11 +51,6 @@ shorter (line ∷ lines) ending draft sheet rest is =
     (λ next. shorter lines ending next sheet rest) (content_taken draft line.1) is
 
 -- ---- the same reading before other contents
-
--- a whole sheet here left nothing of the lines taken
-none-left : (given : List (ℕ × List ℕ)) (lines : List (ℕ × List ℕ)) → given ++ lines ≡ lines
-    → given ≡ []
-none-left given lines is = append_cancel_right given [] lines is
 
 -- from a line on
 by-elsewhere : (number : ℕ) (given : List (ℕ × List ℕ)) (there rest : Contents) (sheet : Sheet)

@@ -1,6 +1,6 @@
 -- The reading of the sheet: what it gives, from what the reader gave and what was written.
-use Rattle.std.proofs.Common.{◌≡◌, ℕ, Bool, List, [], ◌∷◌, ◌++◌, Option, Some, None}
-use Rattle.std.proofs.Common.{Result, Ok, Err, refl, ap, sym, ◌∙◌, subst, inr}
+use Rattle.std.proofs.Common.{◌≡◌, ℕ, Bool, List, [], ◌∷◌, ◌++◌, Option, Some, None, Result, Ok}
+use Rattle.std.proofs.Common.{Err, refl, ap, sym, ◌∙◌, subst, inr}
 use Rattle.std.specs.Io.KnownBytes.{prepend_known}
 use Rattle.std.proofs.lemmas.List.{append-nil}
 use Rattle.league_core.specs.declared.sheet.Sheet.{Sheet}
@@ -26,9 +26,8 @@ use Rattle.futmax_main.specs.declared.run_end.Fault.{Fault}
 use Rattle.futmax_main.specs.declared.run_end.RunEnd.TheVariants.{Refused}
 use Rattle.futmax_main.specs.declared.session.Step.{Step}
 use Rattle.futmax_main.specs.declared.session.Step.TheVariants.{GoesOn, Ends}
-use Rattle.futmax_main.specs.Courses.{Course, Origin, course_ended, course_of}
-use Rattle.futmax_main.specs.Courses.{course_of_reading, input_fault, line_fault}
-use Rattle.futmax_main.specs.Courses.{outcome_at_sheet}
+use Rattle.futmax_main.specs.Courses.{Course, Origin, course_ended, course_of, course_of_reading}
+use Rattle.futmax_main.specs.Courses.{input_fault, line_fault, outcome_at_sheet}
 use Rattle.futmax_main.specs.Texts.{AreAllAnswers}
 use Rattle.futmax_main.specs.Top.{AreAnswersIn, Serves}
 use Rattle.futmax_main.specs.inside.Progress.{Path}
@@ -37,7 +36,7 @@ use Rattle.futmax_main.specs.inside.Turns.{TurnBegins, TurnGives}
 use Rattle.futmax_main.proofs.SheetLemmas.{same-lines, sheet-elsewhere, sheet-reading}
 use Rattle.futmax_main.proofs.TextLemmas.{reached-start}
 use Rattle.futmax_main.proofs.EndLemmas.{fault-serves, memory-serves}
-use Rattle.answer_rows.proofs.OutputLemmas.{append_known-nothing}
+use Rattle.league_core.proofs.plain.Streams.{append_known-nothing, prepend-nothing}
 
 -- a run that found no memory before it read
 pub serves-nothing : (mode : Mode) (input left : Option (List ℕ)) (told : Bool)
@@ -220,17 +219,12 @@ turn-fails_early mode (Some input) held (Some left) told told' to given old pass
 
 -- ---- a reader that has given nothing
 
--- what it has in hand changes nothing of what the source has left
-fresh-stream : (input : Option (List ℕ)) → prepend_known [] input ≡ input
-fresh-stream None = refl
-fresh-stream (Some bytes) = refl
-
 -- the contents to come are all contents
 pub fresh-contents : (reader : LineReaderView) (input : Option (List ℕ))
     → reader ≡ record { held = []; text = []; position = start }
     → contents_to_come reader input ≡ contents_after start input
 fresh-contents reader input is =
-    ap (λ r. contents_to_come r input) is ∙ ap (contents_after start) (fresh-stream input)
+    ap (λ r. contents_to_come r input) is ∙ ap (contents_after start) (prepend-nothing input)
 
 -- the lines that it passes are the first ones
 pub fresh-passes : (reader new : LineReaderView) (input left : Option (List ℕ)) (told told' : Bool)
@@ -241,7 +235,7 @@ fresh-passes reader new input left told told' given is passed =
     let P : LineReaderView → Type 0 = λ r. PassesTo r new input left told told' given in
     let Q : Option (List ℕ) → Type 0 =
     λ known. PassesKnown start known told new.position (stream_of new left) told' given in
-    subst Q (fresh-stream input) (subst P is passed)
+    subst Q (prepend-nothing input) (subst P is passed)
 
 -- what it reads of a sheet is read of the whole input
 pub fresh-reads : (reader : LineReaderView) (input : Option (List ℕ)) (after : Option Contents)

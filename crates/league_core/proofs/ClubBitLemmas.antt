@@ -1,22 +1,22 @@
 -- The bits of a set of clubs: the first so many, one alone, those that two sets share, how many are
 -- set, and the lowest.
-use Rattle.std.proofs.Common.{◌≡◌, ℕ, suc, zero, ◌+◌, ◌-◌, ◌/◌, ◌%◌, ◌^◌, ◌<◌, ◌≤◌, ◌≢◌, ◌⊎◌, inl}
-use Rattle.std.proofs.Common.{inr, min, Bool, true, false, ◌&&◌, eqb, ltb, cond, List, [], ◌∷◌}
-use Rattle.std.proofs.Common.{filter, length, count_ones, sym, ap, refl, ◌∙◌, subst, arith}
+use Rattle.std.proofs.Common.{◌≡◌, ℕ, ◌-◌, ◌/◌, ◌^◌, ◌<◌, ◌≤◌, ◌≢◌, ◌⊎◌, inl, inr, min, Bool, true}
+use Rattle.std.proofs.Common.{false, ◌&&◌, eqb, ltb, [], ◌∷◌, length, count_ones, sym, ap, refl}
+use Rattle.std.proofs.Common.{◌∙◌, arith}
 use Rattle.std.specs.List.{range_with_len}
 use Rattle.std.specs.Int.{bit_at, trailing_zeros}
 use lib.Bits.{bit_and}
-use lib.Count.{ones_step}
 use mir.Syntax.{w32}
 use Rattle.std.proofs.lemmas.Bool.{eq-eqb, cases_eq, cases_lt, and_from, lt-ltb, le-ltb, ne_eqb}
 use Rattle.std.proofs.lemmas.Bool.Decides.{nat_tests}
-use Rattle.std.proofs.lemmas.Nat.{ones_le_self, shr-shr, shr_below}
 use Rattle.std.proofs.lemmas.Nat.Bits.{bit_at-lt, bit_at_and, bit_at_ones, bit_at_ones_above}
 use Rattle.std.proofs.lemmas.Nat.Bits.{bit_at-pow_same, bit_at-pow_other, bit_at-trailing_zeros}
 use Rattle.league_core.specs.game.Sums.{has_club}
 use Rattle.league_core.specs.game.ClubSets.{clubs_below}
 use Rattle.league_core.proofs.ClubSetLemmas.{has_club-clubs_below, filter_agree_in}
 use Rattle.league_core.proofs.ClubSetLemmas.{clubs_below-range, clubs_below-zero}
+use Rattle.league_core.proofs.plain.Runs.{filter-run_one}
+use Rattle.league_core.proofs.plain.Counts.{length-run_bits}
 
 -- the lowest bits, so many of them, are the first clubs
 pub clubs_below-ones : (count clubs : ℕ) → clubs ≤ count
@@ -34,37 +34,6 @@ clubs_below-ones count clubs within =
         let none = bit_at_ones_above clubs x above in
         let over = le-ltb x clubs above in
         grind (arith, nat_tests)
-
--- of a run of numbers, one that lies below it is none
-filter-run_below : (club from count : ℕ) → club < from
-    → filter (λ x. eqb club x) (range_with_len from count) ≡ []
-filter-run_below club from zero below = refl
-filter-run_below club from (suc count) below =
-    let other : eqb club from ≡ false = ne_eqb club from (λ e. omega arith) in
-    ap (λ b. cond b (from ∷ filter (λ x. eqb club x) (range_with_len (from + 1) count))
-    (filter (λ x. eqb club x) (range_with_len (from + 1) count))) other
-    ∙ filter-run_below club (from + 1) count (omega arith)
-
--- of a run of numbers, one that it has is the one that equals it
-filter-run_one : (club from count : ℕ) → from ≤ club → club < from + count
-    → filter (λ x. eqb club x) (range_with_len from count) ≡ club ∷ []
-filter-run_one club from zero low high = absurd (omega arith)
-filter-run_one club from (suc count) low high =
-    by_place (cases_eq club from)
-    (λ below. filter-run_one club (from + 1) count below (omega arith))
-  where
-    rest : List ℕ
-    rest = filter (λ x. eqb club x) (range_with_len (from + 1) count)
-
-    by_place : (club ≡ from) ⊎ (club ≢ from) → (from + 1 ≤ club → rest ≡ club ∷ [])
-        → cond (eqb club from) (from ∷ rest) rest ≡ club ∷ []
-    by_place (inl here) further =
-        ap (λ b. cond b (from ∷ rest) rest) (eq-eqb club from here)
-        ∙ ap (λ xs. from ∷ xs) (filter-run_below club (from + 1) count (omega arith))
-        ∙ ap (λ x. x ∷ []) (sym here)
-    by_place (inr later) further =
-        ap (λ b. cond b (from ∷ rest) rest) (ne_eqb club from later)
-        ∙ further (omega (arith, later))
 
 -- one bit alone is the set of its club
 pub clubs_below-one : (count club : ℕ) → club < count → clubs_below count (2 ^ club) ≡ club ∷ []
@@ -100,38 +69,6 @@ has_club-and bits other x =
         → (b && eqb (min m n) 1) ≡ ((b && eqb m 1) && (b && eqb n 1))
     both_bits true m n low low' = grind (arith, nat_tests)
     both_bits false m n low low' = refl
-
-length-cond : (b : Bool) (x : ℕ) (xs : List ℕ)
-    → length (cond b (x ∷ xs) xs) ≡ cond b 1 0 + length xs
-length-cond true x xs = omega arith
-length-cond false x xs = omega arith
-
--- the bits from a place on, counted
-length-run_bits : (bits width from count : ℕ) → from + count ≡ width → bits < 2 ^ width
-    → length (filter (λ club. eqb (bit_at bits club) 1) (range_with_len from count)) ≡ count_ones
-    (bits / 2 ^ from)
-length-run_bits bits width from zero ends fits =
-    let at_end : width ≡ 0 + from = omega arith in
-    let below : bits < 2 ^ (0 + from) = subst (λ n. bits < 2 ^ n) at_end fits in
-    let low : bits / 2 ^ from < 2 ^ 0 = shr_below bits 0 from below in
-    let none : bits / 2 ^ from ≡ 0 = omega arith in
-    let few = ones_le_self 0 in
-    let nothing : 0 ≡ count_ones 0 = omega arith in
-    nothing ∙ ap count_ones (sym none)
-length-run_bits bits width from (suc count) ends fits =
-    let rest = filter (λ club. eqb (bit_at bits club) 1) (range_with_len (from + 1) count) in
-    let bit : cond (eqb (bit_at bits from) 1) 1 0 ≡ bits / 2 ^ from % 2 = one_or_none
-    (bit_at bits from) (bit_at-lt bits from) in
-    let later : length rest ≡ count_ones (bits / 2 ^ (from + 1)) = length-run_bits bits width
-    (from + 1) count (omega arith) fits in
-    let half : bits / 2 ^ (from + 1) ≡ bits / 2 ^ from / 2 = sym (shr-shr bits from 1) in
-    length-cond (eqb (bit_at bits from) 1) from rest
-    ∙ ap (λ n. n + length rest) bit
-    ∙ ap (λ n. bits / 2 ^ from % 2 + n) (later ∙ ap count_ones half)
-    ∙ sym (ones_step (bits / 2 ^ from))
-  where
-    one_or_none : (n : ℕ) → n < 2 → cond (eqb n 1) 1 0 ≡ n
-    one_or_none n low = grind (arith, nat_tests)
 
 -- a set has as many clubs as it has bits
 pub length-clubs_below : (count bits : ℕ) → bits < 2 ^ count

@@ -1,21 +1,17 @@
 -- How many clubs a set has, and how many clubs of a sheet pass a test.
-use Rattle.std.proofs.Common.{◌≡◌, ℕ, zero, suc, ◌+◌, ◌<◌, ◌≤◌, Bool, true, ◌&&◌, nat_lt, eqb, cond}
-use Rattle.std.proofs.Common.{[], ◌∷◌, ◌++◌, length, count_by, sym, ap, ◌∙◌, arith, add-one}
-use Rattle.std.proofs.Common.{zero-add}
-use Rattle.std.specs.List.{range_with_len}
+use Rattle.std.proofs.Common.{◌≡◌, ℕ, zero, suc, ◌<◌, ◌≤◌, Bool, true, ◌&&◌, nat_lt, eqb, length}
+use Rattle.std.proofs.Common.{count_by, sym, ap, ◌∙◌, arith, add-one}
 use Rattle.std.specs.Int.{bit_at}
 use Rattle.std.proofs.lemmas.Bool.{and_parts, ltb-true}
-use Rattle.std.proofs.lemmas.List.{map-id}
-use Rattle.std.proofs.lemmas.List.Sums.{length-filter, sum_by-append}
-use Rattle.std.proofs.lemmas.List.FromFn.{map-range_with_len_more}
+use Rattle.std.proofs.lemmas.List.Sums.{length-filter}
 use Rattle.league_core.specs.declared.club_set.ClubSet.{ClubSet}
 use Rattle.league_core.specs.declared.sheet.Sheet.{Sheet}
 use Rattle.league_core.specs.game.Sheets.{clubs_of}
 use Rattle.league_core.specs.game.Sums.{has_club}
 use Rattle.league_core.specs.game.ClubSets.{clubs_below, clubs_in}
-use Rattle.league_core.proofs.PlainLemmas.{one_if-most}
 use Rattle.league_core.proofs.ClubSetLemmas.{has_club-clubs_below, has_club-range, clubs_below-none}
 use Rattle.league_core.proofs.ClubSetLemmas.{clubs_below-filter_range, length-clubs_below-suc}
+use Rattle.league_core.proofs.plain.TruthValues.{one_if-most}
 
 -- a club of a set is below its width
 pub member_below : (set : ClubSet) (club : ℕ) → has_club (clubs_in set) club ≡ true → club < 32
@@ -37,30 +33,6 @@ few_below (suc count) bits within =
 -- a set has no more clubs than its width
 pub few_members : (set : ClubSet) → length (clubs_in set) ≤ 32
 few_members set = few_below 32 set.bits (omega arith)
-
--- one number more is the last of a run
-pub range_with_len-suc : (clubs : ℕ)
-    → range_with_len 0 (clubs + 1) ≡ range_with_len 0 clubs ++ clubs ∷ []
-range_with_len-suc clubs =
-    let more = map-range_with_len_more (λ (x : ℕ). x) 0 clubs clubs (omega arith) in
-    rw (map-id, map-id) at more
-
--- a count over one club more
-pub count_by-range_suc : (p : ℕ → Bool) (clubs : ℕ)
-    → count_by p (range_with_len 0 (clubs + 1)) ≡ count_by p (range_with_len 0 clubs) + cond
-    (p clubs) 1 0
-count_by-range_suc p clubs =
-    ap (count_by p) (range_with_len-suc clubs)
-    ∙ sum_by-append (λ x. cond (p x) 1 0) (range_with_len 0 clubs) (clubs ∷ [])
-    ∙ ap (λ n. count_by p (range_with_len 0 clubs) + n) (zero-add (cond (p clubs) 1 0))
-
--- the same, if the number is a successor
-pub count_suc : (p : ℕ → Bool) (clubs : ℕ)
-    → count_by p (range_with_len 0 (suc clubs))
-    ≡ count_by p (range_with_len 0 clubs) + cond (p clubs) 1 0
-count_suc p clubs =
-    let next : suc clubs ≡ clubs + 1 = omega arith in
-    ap (λ n. count_by p (range_with_len 0 n)) next ∙ count_by-range_suc p clubs
 
 -- a set that has the clubs of the sheet which pass a test has as many as pass it
 pub length-passing : (sheet : Sheet) (set : ClubSet) (p : ℕ → Bool) → length sheet.clubs ≤ 32

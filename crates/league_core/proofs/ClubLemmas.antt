@@ -1,45 +1,19 @@
 -- Lists of clubs: which clubs a list has, how many pass a test, and where in the lots a club
 -- stands.
-use Rattle.std.proofs.Common.{◌≡◌, ◌≢◌, ℕ, zero, suc, ◌+◌, ◌<◌, ◌≤◌, Bool, true, false, not, ◌||◌}
-use Rattle.std.proofs.Common.{◌&&◌, ◌==◌, cond, List, [], ◌∷◌, length, get_or, count_by, refl, ◌∙◌}
-use Rattle.std.proofs.Common.{arith, eqb, sym, ap, inl, inr, subst}
+use Rattle.std.proofs.Common.{◌≡◌, ℕ, suc, ◌+◌, ◌<◌, Bool, true, false, not, ◌||◌, ◌&&◌, ◌==◌, cond}
+use Rattle.std.proofs.Common.{List, [], ◌∷◌, length, get_or, refl, ◌∙◌, arith, eqb, sym, ap, inl}
+use Rattle.std.proofs.Common.{inr, subst, ◌++◌}
 use Rattle.std.specs.Prelude.{IsTrue, ◌↔◌}
 use Rattle.std.specs.List.{list_all, list_any, range_with_len}
-use Rattle.std.proofs.lemmas.Bool.{and_parts, and_from, eqb-true, eqb-false, eq-eqb, false≢true}
+use Rattle.std.proofs.lemmas.Bool.{and_parts, and_from, eqb-true, eq-eqb, false≢true, or_cases}
+use Rattle.std.proofs.lemmas.Bool.{or_left, or_right}
 use Rattle.std.proofs.Math.Bool.{not-not}
-use Rattle.std.proofs.lemmas.Bool.{or_cases, or_left, or_right}
 use Rattle.std.proofs.lemmas.Bool.Decides.{same_from_decides}
-use Rattle.std.proofs.lemmas.List.Sums.{sum_by-cons}
-use Rattle.std.proofs.lemmas.List.Folds.{list_any_at}
+use Rattle.std.proofs.lemmas.List.Folds.{list_any_at, list_any-append}
 use Rattle.std.proofs.lemmas.List.FromFn.{length-range_with_len, get_or-range_with_len}
 use Rattle.league_core.specs.game.Sums.{has_club}
 use Rattle.league_core.specs.game.Ranking.{lot_of}
 use Rattle.league_core.specs.search.Reasons.{has_member}
-use Rattle.std.proofs.Common.{◌++◌}
-use Rattle.std.proofs.lemmas.List.Folds.{list_any-append}
-
--- a test that each club from one number on passes is passed by all of them
-pub all_in_range : (test : ℕ → Bool) (from count : ℕ)
-    → ((club : ℕ) → from ≤ club → club < from + count → test club ≡ true)
-    → list_all test (range_with_len from count) ≡ true
-all_in_range test from zero h = refl
-all_in_range test from (suc count) h =
-    and_from (test from) (list_all test (range_with_len (from + 1) count))
-    (h from (omega arith) (omega arith))
-    (all_in_range test (from + 1) count (λ club low high. h club (omega arith) (omega arith)))
-
--- and what all of them pass, each of them passes
-pub each_in_range : (test : ℕ → Bool) (from count : ℕ)
-    → list_all test (range_with_len from count) ≡ true → (club : ℕ) → from ≤ club → club
-    < from + count → test club ≡ true
-each_in_range test from zero h club low high = absurd (omega arith)
-each_in_range test from (suc count) h club low high =
-    let parts = and_parts (test from) (list_all test (range_with_len (from + 1) count)) h in
-    elim (from == club) as (λ b. (from == club) ≡ b → test club ≡ true) [
-      | true ↦ λ e. subst (λ (x : ℕ). test x ≡ true) (eqb-true from club e) parts.0
-      | false ↦ λ e. each_in_range test (from + 1) count parts.1 club
-          (let ne : from ≢ club = eqb-false from club e in omega arith) (omega arith)
-    ] refl
 
 -- the clubs below a number are those numbers
 pub range_has : (count club : ℕ) → club < count → has_club (range_with_len 0 count) club ≡ true
@@ -59,26 +33,6 @@ pub has_club-some : (clubs : List ℕ) (club : ℕ) → has_club clubs club ≡ 
     → 0 < length clubs
 has_club-some [] club has = absurd (false≢true has)
 has_club-some (first ∷ clubs) club has = omega arith
-
--- one test that passes what another passes counts as much or more
-pub one_at_most : (b c : Bool) → (b ≡ true → c ≡ true) → cond b 1 0 ≤ cond c 1 0
-one_at_most true true h = omega arith
-one_at_most true false h = absurd (false≢true (h refl))
-one_at_most false true h = omega arith
-one_at_most false false h = omega arith
-
--- a test that passes more of a list's clubs counts as many or more
-pub count_by-le : (known less more : ℕ → Bool) (clubs : List ℕ) → list_all known clubs ≡ true
-    → ((club : ℕ) → known club ≡ true → less club ≡ true → more club ≡ true) → count_by less clubs
-    ≤ count_by more clubs
-count_by-le known less more [] all h = omega arith
-count_by-le known less more (club ∷ clubs) all h =
-    let parts = and_parts (known club) (list_all known clubs) all in
-    let rest = count_by-le known less more clubs parts.1 h in
-    let here = one_at_most (less club) (more club) (h club parts.0) in
-    let low = sum_by-cons (λ (x : ℕ). cond (less x) 1 0) club clubs in
-    let high = sum_by-cons (λ (x : ℕ). cond (more x) 1 0) club clubs in
-    omega arith
 
 -- a list has the club that its lots place within it
 pub lot_of-within : (lots : List ℕ) (club : ℕ) → has_club lots club ≡ true

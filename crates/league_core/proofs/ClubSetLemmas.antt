@@ -7,9 +7,8 @@ use Rattle.std.specs.Int.{bit_at, bit_not}
 use Rattle.std.specs.Int.RustNames.{bit_or}
 use lib.Bits.{bit_and}
 use mir.Syntax.{w32}
-use Rattle.std.proofs.lemmas.Bool.{eqb-true, eq-eqb, or_left, or_right, ltb-true, ltb-false}
-use Rattle.std.proofs.lemmas.Bool.{cases_eq, cases_lt, and_from, not_from_false}
-use Rattle.std.proofs.lemmas.Bool.{lt-ltb, le-ltb, ne_eqb}
+use Rattle.std.proofs.lemmas.Bool.{eqb-true, eq-eqb, or_left, or_right, cases_eq, cases_lt}
+use Rattle.std.proofs.lemmas.Bool.{and_from, not_from_false, lt-ltb, le-ltb, ne_eqb}
 use Rattle.std.proofs.lemmas.Bool.Decides.{nat_tests}
 use Rattle.std.proofs.lemmas.List.{map-id, length-append}
 use Rattle.std.proofs.lemmas.List.Filters.{length-filter_both}
@@ -22,12 +21,9 @@ use Rattle.league_core.specs.game.Sums.{has_club}
 use Rattle.league_core.specs.game.ClubSets.{clubs_below, clubs_in}
 use Rattle.std.proofs.Math.Bool.{and-true, or-false}
 use Rattle.league_core.proofs.ClubLemmas.{has_club-some}
-
-and_comm : (a b : Bool) → (a && b) ≡ (b && a)
-and_comm true true = refl
-and_comm true false = refl
-and_comm false true = refl
-and_comm false false = refl
+use Rattle.league_core.proofs.plain.TruthValues.{and_comm, and_absorbs}
+use Rattle.league_core.proofs.plain.Filters.{filter-filter}
+use Rattle.league_core.proofs.plain.Runs.{filter-range_below}
 
 -- a run of numbers from a on has a number exactly when it is among them
 pub has_club-range_from : (from count x : ℕ)
@@ -57,19 +53,6 @@ filter_agree_in p q (y ∷ ys) agree =
     (or_right (eqb y x) (has_club ys x) h)) in
     (λ i. cond (here i) (y ∷ rest i) (rest i))
 
-filter_cond : (p : ℕ → Bool) (b : Bool) (y : ℕ) (rest : List ℕ)
-    → filter p (cond b (y ∷ rest) rest) ≡ cond (b && p y) (y ∷ filter p rest) (filter p rest)
-filter_cond p true y rest = refl
-filter_cond p false y rest = refl
-
--- to pass two tests, one after the other, is to pass both
-pub filter-filter : (p q : ℕ → Bool) (xs : List ℕ)
-    → filter p (filter q xs) ≡ filter (λ x. q x && p x) xs
-filter-filter p q [] = refl
-filter-filter p q (y ∷ ys) =
-    filter_cond p (q y) y (filter q ys)
-    ∙ ap (λ rest. cond (q y && p y) (y ∷ rest) rest) (filter-filter p q ys)
-
 -- a set has a club below its width exactly when the club's bit is set
 pub has_club-clubs_below : (count bits x : ℕ)
     → has_club (clubs_below count bits) x ≡ (ltb x count && eqb (bit_at bits x) 1)
@@ -97,38 +80,6 @@ clubs_below-filter count bits group p same =
     (b && eqb (bit_at group x) 1 && p x) in
     subst P below both)
     ∙ sym (filter-filter p (λ x. eqb (bit_at group x) 1) (range_with_len 0 count))
-
--- a test that all pass leaves all
-pub filter_true : (xs : List ℕ) → filter (λ _. true) xs ≡ xs
-filter_true [] = refl
-filter_true (x ∷ xs) = ap (λ ys. x ∷ ys) (filter_true xs)
-
--- of a run of numbers, those below a limit are the first ones
-filter-range_below : (limit from count : ℕ)
-    → filter (λ x. ltb x limit) (range_with_len from count) ≡ range_with_len from
-    (min count (limit - from))
-filter-range_below limit from zero =
-    let none : 0 ≡ min 0 (limit - from) = omega arith in
-    ap (range_with_len from) none
-filter-range_below limit from (suc count) =
-    filter_front limit from count (ltb from limit) refl (filter-range_below limit (from + 1) count)
-  where
-    filter_front : (limit from count : ℕ) (b : Bool) → ltb from limit ≡ b
-        → filter (λ x. ltb x limit) (range_with_len (from + 1) count) ≡ range_with_len (from + 1)
-        (min count (limit - (from + 1)))
-        → cond b (from ∷ filter (λ x. ltb x limit) (range_with_len (from + 1) count))
-        (filter (λ x. ltb x limit) (range_with_len (from + 1) count)) ≡ range_with_len from
-        (min (suc count) (limit - from))
-    filter_front limit from count true below rest =
-        let under : from < limit = ltb-true from limit below in
-        let more : suc (min count (limit - (from + 1))) ≡ min (suc count)
-        (limit - from) = omega arith in
-        ap (λ xs. from ∷ xs) rest ∙ ap (range_with_len from) more
-    filter_front limit from count false above rest =
-        let over : limit ≤ from = ltb-false from limit above in
-        let none : min count (limit - (from + 1)) ≡ 0 = omega arith in
-        let still : 0 ≡ min (suc count) (limit - from) = omega arith in
-        rest ∙ ap (range_with_len (from + 1)) none ∙ ap (range_with_len from) still
 
 -- a set that has exactly the clubs below a number is the run of them
 pub clubs_below-range : (count bits clubs : ℕ) → clubs ≤ count
@@ -311,10 +262,6 @@ length-clubs_below-suc count bits within =
     length-cond true x = refl
     length-cond false x = refl
 
-and_under : (a b c : Bool) → (a && ((a && b) && c)) ≡ ((a && b) && c)
-and_under true b c = refl
-and_under false b c = refl
-
 -- the clubs of a group that pass a test, found by looking at every number that a set can have
 pub clubs_below-filter_all : (bits group : ℕ) (p : ℕ → Bool)
     → ((x : ℕ) → has_club (clubs_below 32 bits) x ≡
@@ -327,7 +274,7 @@ clubs_below-filter_all bits group p found =
     let group_is = has_club-clubs_below 32 group x in
     found x
     ∙ ap (λ b. ltb x 32 && (b && p x)) group_is
-    ∙ and_under (ltb x 32) bit (p x)
+    ∙ and_absorbs (ltb x 32) bit (p x)
     ∙ ap (λ b. b && p x) (sym group_is))
 
 -- a set within another that misses a club of it has fewer clubs

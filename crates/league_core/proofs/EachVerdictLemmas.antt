@@ -1,9 +1,9 @@
 -- One verdict always holds: the list of all finishes is gone through once for each side of the
 -- line, with the lots that favour that side.
-use Rattle.std.proofs.Common.{◌≡◌, ◌⊎◌, ℕ, ◌<◌, Bool, true, false, List, [], ◌∷◌, length, Option}
-use Rattle.std.proofs.Common.{All, Contains, refl, sym, ◌∙◌, subst, inl, inr, arith}
+use Rattle.std.proofs.Common.{◌≡◌, ◌⊎◌, ℕ, ◌<◌, Bool, true, false, List, length, Option, refl, sym}
+use Rattle.std.proofs.Common.{◌∙◌, subst, inl, inr}
 use Rattle.std.proofs.lemmas.Bool.{false≢true, and_parts}
-use Rattle.std.proofs.lemmas.List.Elements.{All-nil, All-cons, All-contains, Contains-append_right}
+use Rattle.std.proofs.lemmas.List.Elements.{All-contains}
 use Rattle.league_core.specs.declared.sheet.Sheet.{Sheet}
 use Rattle.league_core.specs.declared.season.Score.{Score}
 use Rattle.league_core.specs.declared.question.Claim.{Claim}
@@ -22,24 +22,7 @@ use Rattle.league_core.proofs.LotsLemmas.{holds_at-favoured, lots_for_claim-are_
 use Rattle.league_core.proofs.LotsLemmas.{lots_for_claim-favoured}
 use Rattle.league_core.proofs.FinishListLemmas.{finishes_listed}
 use Rattle.league_core.proofs.OneVerdictLemmas.{finish_example}
-
--- an element of the list passes the test, or none does
-some_or_none : {X : Type 0} (test : X → Bool) (xs : List X)
-    → ((x : X) × Contains xs x × (test x ≡ true)) ⊎ All (λ x. test x ≡ false) xs
-some_or_none test [] = inr (All-nil (λ x. test x ≡ false))
-some_or_none {X} test (x ∷ xs) =
-    elim (test x) as (λ b. test x ≡ b
-    → ((y : X) × Contains (x ∷ xs) y × (test y ≡ true)) ⊎ All (λ y. test y ≡ false) (x ∷ xs)) [
-      | true ↦ λ here. inl (x, (0, omega arith, refl), here)
-      | false ↦ λ here. elim (some_or_none test xs) [
-        | inl found ↦ inl (
-          found.0,
-          Contains-append_right (x ∷ []) xs found.0 found.1,
-          found.2,
-        )
-        | inr none ↦ inr (All-cons (λ y. test y ≡ false) x xs here none)
-      ]
-    ] refl
+use Rattle.league_core.proofs.plain.Lists.{some_or_none}
 
 -- the finish with these scores leaves the club on the claim's side, with the lots that favour it
 abbrev pub ends_on_side : Sheet → Results → ℕ → ℕ → Claim → Bool

@@ -1,15 +1,14 @@
 -- The list of all finishes of a season: how long it is, what it has, and where a finish stands in
 -- it.
-use Rattle.std.proofs.Common.{◌≡◌, ℕ, zero, suc, ◌+◌, ◌*◌, ◌<◌, ◌≤◌, true, nat_le}
-use Rattle.std.proofs.Common.{List, [], ◌∷◌, ◌++◌, length, get_or, map, Option, Some, None, All}
-use Rattle.std.proofs.Common.{Contains, slice_get, refl, sym, ap, ◌∙◌, subst, arith, length-append}
-use Rattle.std.specs.List.{flat_map, range_with_len}
+use Rattle.std.proofs.Common.{◌≡◌, ℕ, zero, suc, ◌+◌, ◌*◌, ◌<◌, ◌≤◌, true, nat_le, List, [], ◌∷◌}
+use Rattle.std.proofs.Common.{length, get_or, map, Option, Some, None, All, Contains, slice_get}
+use Rattle.std.proofs.Common.{refl, sym, ap, ◌∙◌, subst, arith}
+use Rattle.std.specs.List.{range_with_len}
 use Rattle.std.proofs.Math.Nat.{mul-le-mul_right}
 use Rattle.std.proofs.lemmas.Bool.{false≢true, and_parts, and_from, le-leb, leb-true}
 use Rattle.std.proofs.lemmas.Option.{slice_get-get_or}
-use Rattle.std.proofs.lemmas.List.{get_or-map, length-map, get_or_append_left, get_or-append-add}
-use Rattle.std.proofs.lemmas.List.Elements.{All-nil, All-append, All-map, All-contains}
-use Rattle.std.proofs.lemmas.List.Elements.{All-from_get_or}
+use Rattle.std.proofs.lemmas.List.{get_or-map, length-map}
+use Rattle.std.proofs.lemmas.List.Elements.{All-map, All-contains, All-from_get_or}
 use Rattle.std.proofs.lemmas.List.FromFn.{length-range_with_len, get_or-range_with_len}
 use Rattle.std.proofs.lemmas.List.FromFn.{length-map-range_with_len, get_or-map-range_with_len}
 use Rattle.league_core.specs.declared.season.Score.{Score}
@@ -18,35 +17,9 @@ use Rattle.league_core.specs.search.Options.{score_of, scores_up_to}
 use Rattle.league_core.specs.inside.FinishList.{ends_of, with_first, finishes_of, ways_to_end}
 use Rattle.league_core.specs.inside.FinishList.{ways_to_finish, score_number, end_number, number_of}
 use Rattle.league_core.proofs.OptionLemmas.{same_score-true, same_score-itself}
-
--- pieces of one length make a list of so many times their number
-length-pieces : {X A : Type 0} (f : X → List A) (size : ℕ) → ((x : X) → length (f x) ≡ size)
-    → (xs : List X) → length (flat_map f xs) ≡ length xs * size
-length-pieces f size each [] = omega arith
-length-pieces f size each (x ∷ xs) =
-    let rest = length-pieces f size each xs in
-    omega (arith, length-append (f x) (flat_map f xs), each x, rest)
-
--- and what stands in a piece stands in the list, after the pieces before it
-get_or-pieces : {X A : Type 0} (f : X → List A) (size : ℕ) → ((x : X) → length (f x) ≡ size)
-    → (xs : List X) (i j : ℕ) (e : X) (d : A) → i < length xs → j < size
-    → get_or (flat_map f xs) (i * size + j) d ≡ get_or (f (get_or xs i e)) j d
-get_or-pieces f size each [] i j e d below within = absurd (omega arith)
-get_or-pieces f size each (x ∷ xs) zero j e d below within =
-    let here : zero * size + j ≡ j = omega arith in
-    ap (λ n. get_or (f x ++ flat_map f xs) n d) here
-    ∙ get_or_append_left (f x) (flat_map f xs) d j (omega (arith, each x))
-get_or-pieces f size each (x ∷ xs) (suc i) j e d below within =
-    let here : suc i * size + j ≡ length (f x) + (i * size + j) = omega (arith, each x) in
-    ap (λ n. get_or (f x ++ flat_map f xs) n d) here
-    ∙ get_or-append-add (f x) (flat_map f xs) (i * size + j) d
-    ∙ get_or-pieces f size each xs i j e d (omega arith) within
-
--- a place in a piece is a place in the list
-within_pieces : (i j pieces size : ℕ) → i < pieces → j < size → i * size + j < pieces * size
-within_pieces i j pieces size below within =
-    let whole : suc i * size ≤ pieces * size = mul-le-mul_right size (omega arith) in
-    omega arith
+use Rattle.league_core.proofs.plain.Parts.{All-pieces, get_or-pieces, length-pieces}
+use Rattle.league_core.proofs.plain.Runs.{numbers_below}
+use Rattle.league_core.proofs.plain.Numbers.{within_pieces}
 
 -- the scores with these goals at home
 abbrev row_of : ℕ → ℕ → List Score
@@ -185,20 +158,6 @@ number_of-same limit season finish other may other_may same =
     sym ((finish_stands limit season finish may).there [])
     ∙ ap (λ n. get_or (finishes_of limit season) n []) same
     ∙ (finish_stands limit season other other_may).there []
-
--- what holds of the pieces of all that are in a list holds of the pieces together
-All-pieces : {X A : Type 0} (P : X → Type 0) (Q : A → Type 0) (f : X → List A)
-    → ((x : X) → P x → All Q (f x)) → (xs : List X) → All P xs → All Q (flat_map f xs)
-All-pieces P Q f each [] all = All-nil Q
-All-pieces P Q f each (x ∷ xs) all =
-    All-append Q (f x) (flat_map f xs) (each x (all 0 x (omega arith)))
-    (All-pieces P Q f each xs (λ k d h. all (suc k) d (omega arith)))
-
-numbers_below : (count : ℕ) → All (λ n. n < count) (range_with_len 0 count)
-numbers_below count =
-    All-from_get_or (λ n. n < count) (range_with_len 0 count) 0
-    (λ i h. let below : i < count = omega (arith, length-range_with_len 0 count) in
-    subst (λ n. n < count) (sym (get_or-range_with_len 0 count i 0 below)) (omega arith))
 
 ends_may : (limit : ℕ) (played : Option Score)
     → All (λ ended. may_end limit played ended ≡ true) (ends_of limit played)

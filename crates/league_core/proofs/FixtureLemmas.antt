@@ -5,7 +5,7 @@ use Rattle.std.proofs.lemmas.Bool.{and_parts, eq-eqb, ltb-true, true≢false}
 use Rattle.league_core.specs.declared.sheet.Sheet.{Sheet}
 use Rattle.league_core.specs.declared.sheet.Fixture.{Fixture}
 use Rattle.league_core.specs.game.Sheets.{IsWithinLimits, is_fixture}
-use Rattle.league_core.proofs.PlainLemmas.{list_all-at}
+use Rattle.league_core.proofs.plain.Lists.{list_all-at}
 
 -- a match has two different clubs
 pub clubs_apart : (clubs : ℕ) (match : Fixture) → is_fixture clubs match ≡ true

@@ -1,14 +1,14 @@
 -- Leaves that are lent: how many there are and where they stand, when nothing is left to do, and
 -- the tree with each of them open again.
-use Rattle.std.proofs.Common.{◌≡◌, ℕ, ◌+◌, ◌≤◌, Bool, true, false, ◌&&◌, ◌||◌, ◌==◌, nat_lt, cond}
-use Rattle.std.proofs.Common.{List, [], ◌∷◌, ◌++◌, length, refl, sym, ap, ◌∙◌, arith, length-append}
+use Rattle.std.proofs.Common.{◌≡◌, ℕ, ◌≤◌, Bool, true, false, ◌&&◌, ◌||◌, ◌==◌, nat_lt, cond, List}
+use Rattle.std.proofs.Common.{[], ◌∷◌, ◌++◌, length, refl, sym, ap, ◌∙◌, arith, length-append}
 use Rattle.std.proofs.lemmas.Bool.{true≢false, false≢true, and_parts, or_parts, eq-eqb}
-use Rattle.std.proofs.lemmas.Bool.Decides.{nat_tests}
 use Rattle.league_core.specs.declared.zone.Literal.{Literal}
 use Rattle.league_core.specs.search.Zones.{with_test}
 use Rattle.league_core.specs.search.Trees.{Tree, open_leaf, lent_leaf, refuted_leaf, branch}
 use Rattle.league_core.specs.search.Trees.{zones_from, node_count, new_count, has_open, is_refuted}
 use Rattle.league_core.specs.inside.Lending.{lent_count, times_lent, lent_zones, all_opened}
+use Rattle.league_core.proofs.plain.Numbers.{some_of_sum}
 
 -- a number is lent as often as it has zones
 pub length-lent_zones : (number : ℕ) (tree : Tree) (zone : List Literal)
@@ -93,10 +93,6 @@ refuted_is_settled (branch test fresh yes_half no_half) refuted =
     let yes = refuted_is_settled yes_half parts.0 in
     let no = refuted_is_settled no_half parts.1 in
     (rw (yes.0, no.0) refl, omega (arith, yes.1, no.1))
-
--- some of a sum is some of one of its parts
-pub some_of_sum : (m n : ℕ) → nat_lt 0 (m + n) ≡ (nat_lt 0 m || nat_lt 0 n)
-some_of_sum m n = grind (arith, nat_tests)
 
 -- with each lent leaf open no number is lent
 pub times_lent-all_opened : (number : ℕ) (tree : Tree) → times_lent number (all_opened tree) ≡ 0

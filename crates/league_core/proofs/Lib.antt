@@ -1,8 +1,8 @@
--- Lemmas on one notion each: results, logs, comparisons, lists of clubs, sets of clubs, walks over
--- them, standings, the ranking, places, lots, finishes, points and verdicts, options, boxes,
--- proposed finishes, ranges of points, the sure order, trees, lent leaves, trees as lists, halves
--- of a zone, sums, fixtures of a sheet and pairs of clubs.
-pub mod PlainLemmas
+-- General facts in `plain`, and lemmas on one notion each: results, logs, comparisons, lists of
+-- clubs, sets of clubs, walks over them, standings, the ranking, places, lots, finishes, points and
+-- verdicts, options, boxes, proposed finishes, ranges of points, the sure order, trees, lent
+-- leaves, trees as lists, halves of a zone, sums, fixtures of a sheet and pairs of clubs.
+pub mod plain
 pub mod ResultsLemmas
 pub mod LogLemmas
 pub mod ScoreCodeLemmas

@@ -1,7 +1,7 @@
 -- The options of a fixture in a zone, by its number in the sheet, and what one literal more leaves
 -- of them.
-use Rattle.std.proofs.Common.{◌≡◌, ℕ, ◌+◌, ◌<◌, true, false, not, ◌&&◌, ◌||◌, List, [], ◌∷◌}
-use Rattle.std.proofs.Common.{◌++◌, length, get_or, Option, None, sym, ap, ◌∙◌, arith}
+use Rattle.std.proofs.Common.{◌≡◌, ℕ, ◌+◌, ◌<◌, true, false, not, ◌&&◌, ◌||◌, List, [], ◌∷◌, ◌++◌}
+use Rattle.std.proofs.Common.{length, get_or, Option, None, sym, ap, ◌∙◌, arith}
 use Rattle.league_core.specs.declared.sheet.Sheet.{Sheet}
 use Rattle.league_core.specs.declared.season.Score.{Score}
 use Rattle.league_core.specs.declared.zone.Literal.{Literal}
@@ -10,7 +10,7 @@ use Rattle.league_core.specs.search.Zones.{is_on, passes, is_as_said}
 use Rattle.league_core.specs.search.Options.{meets_literal, options_of, options_from, options_in}
 use Rattle.league_core.specs.search.Options.{has_score, has_option, has_finish}
 use Rattle.league_core.proofs.OptionLemmas.{has_score-with, get_or-options_from}
-use Rattle.league_core.proofs.PlainLemmas.{list_all-at}
+use Rattle.league_core.proofs.plain.Lists.{list_all-at}
 
 -- the options of a fixture by its number in the sheet
 pub options_at : (limit : ℕ) (zone : List Literal) (scores : List (Option Score)) (k : ℕ)

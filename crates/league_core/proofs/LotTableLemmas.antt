@@ -1,9 +1,8 @@
 -- Lots name each club once, so they are the table that they give wherever points and criteria allow
 -- it.
-use Rattle.std.proofs.Common.{◌≡◌, ◌≢◌, ℕ, ◌+◌, ◌<◌, true, false, not}
-use Rattle.std.proofs.Common.{◌||◌, ◌==◌, eqb, nat_lt, cond, List, [], ◌∷◌, ◌++◌, length, Ordering}
-use Rattle.std.proofs.Common.{nat_cmp, refl, sym, ◌∙◌, ap, subst, inl, inr, arith}
-use Rattle.std.proofs.Common.{length-append}
+use Rattle.std.proofs.Common.{◌≡◌, ◌≢◌, ℕ, ◌+◌, ◌<◌, true, false, not, ◌||◌, ◌==◌, eqb, nat_lt}
+use Rattle.std.proofs.Common.{cond, List, [], ◌∷◌, ◌++◌, length, Ordering, nat_cmp, refl, sym, ◌∙◌}
+use Rattle.std.proofs.Common.{ap, subst, inl, inr, arith, length-append}
 use Rattle.std.specs.List.{list_all, list_any, range_with_len}
 use Rattle.std.proofs.lemmas.List.{append_assoc}
 use Rattle.std.proofs.lemmas.Bool.{false≢true, and_parts, or_cases, or_left, or_right, eqb-true}
@@ -15,12 +14,12 @@ use Rattle.league_core.specs.game.Results.{Results}
 use Rattle.league_core.specs.game.Sums.{has_club}
 use Rattle.league_core.specs.game.Ranking.{are_lots, lot_of, order_of, AreRanked, IsTable}
 use Rattle.league_core.specs.laws.Laws.{IsAllowedTable}
-use Rattle.league_core.proofs.OrderingLemmas.{nat_cmp-less}
 use Rattle.league_core.proofs.ClubSetLemmas.{has_club-range}
 use Rattle.league_core.proofs.OthersLemmas.{lot_of-absent}
 use Rattle.league_core.proofs.RankingLemmas.{lots_have}
 use Rattle.league_core.proofs.TableLemmas.{order_of-wanted}
 use Rattle.league_core.proofs.ClubLemmas.{has_club-append, any_from_has}
+use Rattle.league_core.proofs.plain.Orderings.{nat_cmp-less}
 
 -- the list has every club below a number, and no more entries than there are such clubs
 record NameEach (clubs : ℕ) (lots : List ℕ) : Type 0 where

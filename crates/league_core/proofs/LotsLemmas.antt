@@ -23,11 +23,12 @@ use Rattle.league_core.specs.game.Questions.{is_on_side, is_in_window, holds_at}
 use Rattle.league_core.specs.search.Zones.{others_of}
 use Rattle.league_core.specs.inside.LotsFor.{first_lots, last_lots, lots_for_claim, IsFavoured}
 use Rattle.league_core.specs.inside.LotsFor.{order_without_lots, best_place_of, worst_place_of}
-use Rattle.league_core.proofs.OrderingLemmas.{is_lt-nat_cmp}
-use Rattle.league_core.proofs.ClubLemmas.{all_in_range, count_by-le}
 use Rattle.league_core.proofs.OthersLemmas.{lot_of-absent, lot_of-present, others_have_not}
 use Rattle.league_core.proofs.OthersLemmas.{others_have, length-others_of}
 use Rattle.league_core.proofs.RankingLemmas.{order_of-lots, order_of_total}
+use Rattle.league_core.proofs.plain.Orderings.{is_lt-nat_cmp}
+use Rattle.league_core.proofs.plain.Runs.{all_in_range}
+use Rattle.league_core.proofs.plain.Counts.{count_by-le}
 
 -- who comes before the first in the lots comes before it by what counts more, so with all lots
 before_first : (o : Ordering) (i j k m : ℕ) → j ≡ 0 → is_lt (ordering_then o (nat_cmp i j)) ≡ true

@@ -18,9 +18,9 @@ use Rattle.league_core.specs.game.Finishes.{same_score, may_end, may_all_end, Is
 use Rattle.league_core.specs.search.Options.{score_of, scores_up_to, endings, meets_literal, meets}
 use Rattle.league_core.specs.search.Options.{options_of, options_from, has_score, takes_option}
 use Rattle.league_core.specs.search.Options.{take_options, IsInBox}
-use Rattle.league_core.proofs.PlainLemmas.{eqb-swap}
 use Rattle.league_core.proofs.ResultsLemmas.{scores_decided}
 use Rattle.league_core.proofs.ClubSetLemmas.{has_club-range}
+use Rattle.league_core.proofs.plain.Numbers.{eqb-swap}
 
 -- two scores with the same goals are one
 pub same_score-true : (score other : Score) → same_score score other ≡ true → score ≡ other

@@ -1,10 +1,9 @@
 -- The clubs beside one, in the order of their numbers: who they are, how many, and where lots place
 -- a club that stands before or after them.
-use Rattle.std.proofs.Common.{◌≡◌, ◌≢◌, ℕ, zero, suc, ◌+◌, ◌<◌, ◌≤◌, Bool, true, false, not, ◌||◌}
-use Rattle.std.proofs.Common.{◌==◌, cond, List, [], ◌∷◌, ◌++◌, length, filter, refl, sym, ◌∙◌, ap}
-use Rattle.std.proofs.Common.{subst, inl, inr, arith}
+use Rattle.std.proofs.Common.{◌≡◌, ◌≢◌, ℕ, suc, ◌+◌, ◌<◌, true, false, not, ◌||◌, ◌==◌, cond, List}
+use Rattle.std.proofs.Common.{[], ◌∷◌, ◌++◌, length, sym, ◌∙◌, ap, arith}
 use Rattle.std.specs.List.{range_with_len}
-use Rattle.std.proofs.lemmas.Bool.{false≢true, true≢false, eqb-true, eq-eqb, ne_eqb, cases_eq}
+use Rattle.std.proofs.lemmas.Bool.{false≢true, true≢false, eqb-true, ne_eqb}
 use Rattle.std.proofs.lemmas.List.Filters.{length-filter_both}
 use Rattle.std.proofs.lemmas.List.FromFn.{length-range_with_len}
 use Rattle.std.proofs.lemmas.Map.Views.{any-filter_same}
@@ -13,6 +12,7 @@ use Rattle.league_core.specs.game.Ranking.{lot_of}
 use Rattle.league_core.specs.search.Zones.{others_of}
 use Rattle.league_core.proofs.ClubLemmas.{range_has}
 use Rattle.std.proofs.Math.Bool.{not-not}
+use Rattle.league_core.proofs.plain.Runs.{length-one_of}
 
 -- what a list has not stands in what follows it
 pub lot_of-absent : (lots more : List ℕ) (club : ℕ) → has_club lots club ≡ false
@@ -51,38 +51,12 @@ others_have clubs club other below different =
     (range_with_len 0 clubs)
     ∙ range_has clubs other below
 
--- from a later number on a club is not met
-none_of : (from count club : ℕ) → club < from
-    → length (filter (λ other. other == club) (range_with_len from count)) ≡ 0
-none_of from zero club h = refl
-none_of from (suc count) club h =
-    subst (λ (b : Bool). length
-    (cond b (from ∷ filter (λ other. other == club) (range_with_len (from + 1) count))
-    (filter (λ other. other == club) (range_with_len (from + 1) count))) ≡ 0)
-    (sym (ne_eqb from club (omega arith))) (none_of (from + 1) count club (omega arith))
-
--- of numbers in a row a club is one
-one_of : (from count club : ℕ) → from ≤ club → club < from + count
-    → length (filter (λ other. other == club) (range_with_len from count)) ≡ 1
-one_of from zero club low high = absurd (omega arith)
-one_of from (suc count) club low high =
-    let rest = filter (λ other. other == club) (range_with_len (from + 1) count) in
-    elim (cases_eq from club) [
-      | inl same ↦
-          subst (λ (b : Bool). length (cond b (from ∷ rest) rest) ≡ 1) (sym (eq-eqb from club same))
-          (ap suc (none_of (from + 1) count club (omega arith)))
-      | inr different ↦
-          subst (λ (b : Bool). length (cond b (from ∷ rest) rest) ≡ 1)
-          (sym (ne_eqb from club different))
-          (one_of (from + 1) count club (omega arith) (omega arith))
-    ]
-
 -- the others are one club fewer
 pub length-others_of : (clubs club : ℕ) → club < clubs → length (others_of clubs club) + 1 ≡ clubs
 length-others_of clubs club below =
     let both = length-filter_both (λ (other : ℕ). not (other == club))
     (λ (other : ℕ). other == club) (λ other. sym (not-not (other == club)))
     (range_with_len 0 clubs) in
-    let one = one_of 0 clubs club (omega arith) (omega arith) in
+    let one = length-one_of 0 clubs club (omega arith) (omega arith) in
     let all = length-range_with_len 0 clubs in
     omega arith

@@ -11,13 +11,10 @@ use Rattle.league_core.specs.game.Results.{Results}
 use Rattle.league_core.specs.game.Sheets.{clubs_of}
 use Rattle.league_core.specs.game.Sums.{has_club}
 use Rattle.league_core.specs.game.Ranking.{ranks_before, place_of}
-use Rattle.league_core.proofs.ClubLemmas.{one_at_most, count_by-le, range_has}
+use Rattle.league_core.proofs.ClubLemmas.{range_has}
 use Rattle.league_core.proofs.RankingLemmas.{ranks_before-itself, ranks_before-trans}
-
-one_more : (b c : Bool) → b ≡ false → c ≡ true → cond b 1 0 < cond c 1 0
-one_more true c e h = absurd (false≢true (sym e))
-one_more false true e h = omega arith
-one_more false false e h = absurd (false≢true h)
+use Rattle.league_core.proofs.plain.TruthValues.{one_if-le, one_if-lt}
+use Rattle.league_core.proofs.plain.Counts.{count_by-le}
 
 same_test : (test : ℕ → Bool) (club other : ℕ) (b : Bool) → (other == club) ≡ true → test club ≡ b
     → test other ≡ b
@@ -35,13 +32,13 @@ count_by-lt less more (other ∷ clubs) club has h out within =
     elim (other == club) as (λ b. (other == club) ≡ b → (b || has_club clubs club) ≡ true
     → count_by less (other ∷ clubs) < count_by more (other ∷ clubs)) [
       | true ↦ λ same _.
-          let here = one_more (less other) (more other) (same_test less club other false same out)
+          let here = one_if-lt (less other) (more other) (same_test less club other false same out)
           (same_test more club other true same within) in
           let rest = count_by-le (λ _. true) less more clubs (all_pass clubs)
           (λ third _. h third) in
           omega arith
       | false ↦ λ _ further.
-          let here = one_at_most (less other) (more other) (h other) in
+          let here = one_if-le (less other) (more other) (h other) in
           let rest = count_by-lt less more clubs club further h out within in
           omega arith
     ] refl has

@@ -6,6 +6,7 @@ use Rattle.std.proofs.Common.{get_or, drop, refl, sym, ap, ◌∙◌, inl, inr, 
 use Rattle.std.specs.Int.{int_min, int_max, bit_at}
 use Rattle.std.proofs.lemmas.Int.{ints, clamps}
 use Rattle.std.proofs.lemmas.Bool.{false≢true, or_cases, cases_eq, eq-eqb, ne_eqb, lt-ltb, le-ltb}
+use Rattle.std.proofs.lemmas.Bool.{or_right}
 use Rattle.std.proofs.lemmas.Bool.Decides.{nat_tests}
 use Rattle.std.proofs.lemmas.List.{drop_more, drop_all}
 use Rattle.league_core.specs.declared.sheet.Fixture.{Fixture}
@@ -18,22 +19,8 @@ use Rattle.league_core.specs.search.PointRanges.{points_together, points_of_side
 use Rattle.league_core.proofs.OptionLemmas.{same_score-true, has_score-first}
 use Rattle.league_core.proofs.OptionTestLemmas.{has_option-some}
 use Rattle.league_core.proofs.ClubSetLemmas.{has_club-clubs_below, clubs_below-suc}
-use Rattle.std.proofs.lemmas.Bool.{or_right}
-
--- the lesser of two numbers, and the greater, is one of them
-least_is_one : (x y : ℤ) → (int_min x y ≡ x) ⊎ (int_min x y ≡ y)
-least_is_one x y = by_test _ x y
-  where
-    by_test : (b : Bool) (x y : ℤ) → (cond b y x ≡ x) ⊎ (cond b y x ≡ y)
-    by_test true x y = inr refl
-    by_test false x y = inl refl
-
-greatest_is_one : (x y : ℤ) → (int_max x y ≡ x) ⊎ (int_max x y ≡ y)
-greatest_is_one x y = by_test _ x y
-  where
-    by_test : (b : Bool) (x y : ℤ) → (cond b x y ≡ x) ⊎ (cond b x y ≡ y)
-    by_test true x y = inl refl
-    by_test false x y = inr refl
+use Rattle.league_core.proofs.plain.TruthValues.{cond_same}
+use Rattle.league_core.proofs.plain.Numbers.{int_max-is_one, int_min-is_one}
 
 -- each option's value lies between the ends
 pub range_bounds : (value : Score → ℤ) (options : List Score) (score : Score)
@@ -92,7 +79,7 @@ least_reached value [] some = absurd (false≢true some)
 least_reached value (first ∷ []) some = reaches_first value first [] (value first) refl
 least_reached value (first ∷ other ∷ options) some =
     let least = (range_of value (other ∷ options)).least in
-    elim (least_is_one (value first) least) as (λ _. Reaches value (first ∷ other ∷ options)
+    elim (int_min-is_one (value first) least) as (λ _. Reaches value (first ∷ other ∷ options)
     (int_min (value first) least)) [
       | inl here ↦ reaches_first value first (other ∷ options) (int_min (value first) least) here
       | inr later ↦ reaches_later value first (other ∷ options) least
@@ -105,7 +92,7 @@ greatest_reached value [] some = absurd (false≢true some)
 greatest_reached value (first ∷ []) some = reaches_first value first [] (value first) refl
 greatest_reached value (first ∷ other ∷ options) some =
     let greatest = (range_of value (other ∷ options)).greatest in
-    elim (greatest_is_one (value first) greatest) as (λ _. Reaches value (first ∷ other ∷ options)
+    elim (int_max-is_one (value first) greatest) as (λ _. Reaches value (first ∷ other ∷ options)
     (int_max (value first) greatest)) [
       | inl here ↦ reaches_first value first (other ∷ options) (int_max (value first) greatest) here
       | inr later ↦ reaches_later value first (other ∷ options) greatest
@@ -186,10 +173,6 @@ total_of-next value count bits within =
     ∙ ap (λ b. b && eqb (bit_at bits count) 1) (lt-ltb count 32 within) in
     total_of-suc value count bits
     ∙ ap (λ b. total_of value (clubs_below count bits) +ℤ cond b (value count) (pos 0)) (sym here)
-
-cond_same : {X : Type 0} (b : Bool) (x : X) → cond b x x ≡ x
-cond_same true x = refl
-cond_same false x = refl
 
 -- clubs that are worth nothing add nothing
 pub total_of-past : (value : ℕ → ℤ) (count more bits : ℕ)

@@ -23,11 +23,11 @@ use Rattle.league_core.specs.search.Options.{take_options, IsInBox}
 use Rattle.league_core.specs.search.Proposals.{is_wished, wishes_met, option_order, first_of_two}
 use Rattle.league_core.specs.search.Proposals.{first_option, IsFirstOption, first_options}
 use Rattle.league_core.specs.search.Proposals.{proposed_finish}
-use Rattle.league_core.proofs.OrderingLemmas.{then-equal}
 use Rattle.league_core.proofs.StandingLemmas.{by_first_difference_total}
 use Rattle.league_core.proofs.OptionLemmas.{same_score-true, same_score-itself, has_score-first}
 use Rattle.league_core.proofs.OptionLemmas.{length-options_from}
 use Rattle.league_core.proofs.BoxLemmas.{box_is_finish}
+use Rattle.league_core.proofs.plain.Orderings.{then-equal, not_gt_less, not_gt_from_turned}
 
 -- ---- the order
 
@@ -75,16 +75,6 @@ IsUpTo home away score other = is_gt (option_order home away score other) ≡ fa
 up_to_itself : (home away : Bool) (score : Score) → IsUpTo home away score score
 up_to_itself home away score = ap is_gt (tied_itself (option_order_total home away) score)
 
-less_up_to : (o : Ordering) → is_lt o ≡ true → is_gt o ≡ false
-less_up_to Less h = refl
-less_up_to Equal h = refl
-less_up_to Greater h = absurd (false≢true h)
-
-turned_up_to : (o : Ordering) → is_lt o ≡ false → is_gt (ordering_reverse o) ≡ false
-turned_up_to Less h = absurd (true≢false h)
-turned_up_to Equal h = refl
-turned_up_to Greater h = refl
-
 -- what one of two is, the other if the test holds
 of_two : (P : Score → Type 0) (test : Bool) (score other : Score) → (test ≡ true → P other)
     → (test ≡ false → P score) → P (if test then other else score)
@@ -96,7 +86,7 @@ two_up_to_one : (home away : Bool) (score other : Score)
     → IsUpTo home away (first_of_two home away score other) score
 two_up_to_one home away score other =
     of_two (λ first. IsUpTo home away first score) (is_lt (option_order home away other score))
-    score other (less_up_to (option_order home away other score))
+    score other (not_gt_less (option_order home away other score))
     (λ _. up_to_itself home away score)
 
 two_up_to_other : (home away : Bool) (score other : Score)
@@ -105,7 +95,7 @@ two_up_to_other home away score other =
     of_two (λ first. IsUpTo home away first other) (is_lt (option_order home away other score))
     score other (λ _. up_to_itself home away other)
     (λ not_before. ap is_gt ((option_order_total home away).antisymm score other)
-    ∙ turned_up_to (option_order home away other score) not_before)
+    ∙ not_gt_from_turned (option_order home away other score) not_before)
 
 -- it is one of the two
 two_is_one : (home away : Bool) (score other : Score)

@@ -11,7 +11,8 @@ use Rattle.league_core.specs.search.Trees.{Tree, open_leaf, lent_leaf, refuted_l
 use Rattle.league_core.specs.search.Trees.{zones_from, node_count, new_count, has_open}
 use Rattle.league_core.specs.inside.Leaves.{is_leaf}
 use Rattle.league_core.specs.inside.Lending.{lent_count, times_lent, lent_zones, put}
-use Rattle.league_core.proofs.LendingLemmas.{lent_zones_absent, some_of_sum}
+use Rattle.league_core.proofs.LendingLemmas.{lent_zones_absent}
+use Rattle.league_core.proofs.plain.Numbers.{some_of_sum}
 
 -- nothing is put in place of a number that is not lent
 pub put_absent : (number : ℕ) (new tree : Tree) → times_lent number tree ≡ 0

@@ -1,11 +1,10 @@
 -- The ranking is a total order of all clubs, and with lots no two clubs are level in it.
 use Rattle.std.proofs.Common.{◌≡◌, ◌≢◌, ◌⊎◌, ℕ, ℤ, ◌<◌, true, false, ◌==◌, List, ◌∷◌, length}
-use Rattle.std.proofs.Common.{get_or, Ordering, Less, Equal, Greater, is_eq, is_lt, nat_cmp, refl}
-use Rattle.std.proofs.Common.{sym, ◌∙◌, ap, subst, inl, inr, arith}
+use Rattle.std.proofs.Common.{get_or, Equal, is_eq, is_lt, nat_cmp, sym, ◌∙◌, ap, subst, arith}
 use Rattle.std.specs.Cmp.{IsTotalOrder}
 use Rattle.std.specs.List.{list_all, range_with_len}
-use Rattle.std.specs.Ordering.{ordering_then, ordering_reverse, int_eq}
-use Rattle.std.proofs.lemmas.Bool.{false≢true, and_parts, eqb-true}
+use Rattle.std.specs.Ordering.{ordering_then, int_eq}
+use Rattle.std.proofs.lemmas.Bool.{and_parts, eqb-true}
 use Rattle.std.proofs.lemmas.Cmp.{int_cmp_total, nat_cmp_total, on_total, then_total, alike_right}
 use Rattle.std.proofs.lemmas.Cmp.{tied_itself}
 use Rattle.std.proofs.lemmas.List.Elements.{filter_agree}
@@ -18,10 +17,11 @@ use Rattle.league_core.specs.game.HeadToHead.{greater_first, by_first_difference
 use Rattle.league_core.specs.game.Ahead.{standing_in}
 use Rattle.league_core.specs.game.Ranking.{are_lots, lot_of, tied_group_of, order_of, ranks_before}
 use Rattle.league_core.specs.inside.LotsFor.{order_without_lots}
-use Rattle.league_core.proofs.OrderingLemmas.{then_agree, then-then, then-equal, nat_cmp-equal}
-use Rattle.league_core.proofs.OrderingLemmas.{less-is_lt}
-use Rattle.league_core.proofs.ClubLemmas.{each_in_range, lot_of-within}
+use Rattle.league_core.proofs.ClubLemmas.{lot_of-within}
 use Rattle.league_core.proofs.StandingLemmas.{by_first_difference_total, key_by, standing_by-key}
+use Rattle.league_core.proofs.plain.Orderings.{then_agree, then-then, then-equal, nat_cmp-equal}
+use Rattle.league_core.proofs.plain.Orderings.{less-is_lt, not_both, one_first}
+use Rattle.league_core.proofs.plain.Runs.{each_in_range}
 
 -- two clubs on one number of points are tied with the same clubs
 pub tied_group_of-tied : (sheet : Sheet) (season : Results) (club other : ℕ)
@@ -113,15 +113,6 @@ order_of-different sheet season lots club other drawn below other_below differen
     (lots_have (length sheet.clubs) lots other drawn other_below)
     (nat_cmp-equal (lot_of lots club) (lot_of lots other) split.1))
 
--- one of the two comes first
-one_first : (here there : Ordering) → here ≡ ordering_reverse there → here ≢ Equal
-    → (is_lt here ≡ true) ⊎ (is_lt there ≡ true)
-one_first Less there e h = inl refl
-one_first Equal there e h = absurd (h refl)
-one_first Greater Less e h = inr refl
-one_first Greater Equal e h = absurd (let c : Greater ≡ Equal = e in cc)
-one_first Greater Greater e h = absurd (let c : Greater ≡ Less = e in cc)
-
 -- one of two different clubs ranks before the other
 pub ranks_before-one : (sheet : Sheet) (season : Results) (lots : List ℕ) (club other : ℕ)
     → are_lots (length sheet.clubs) lots ≡ true → club < length sheet.clubs → other
@@ -131,14 +122,6 @@ ranks_before-one sheet season lots club other drawn below other_below different 
     one_first (order_of sheet season lots club other) (order_of sheet season lots other club)
     ((order_of_total sheet season lots).antisymm club other)
     (order_of-different sheet season lots club other drawn below other_below different)
-
-not_both : (here there : Ordering) → here ≡ ordering_reverse there → is_lt here ≡ true
-    → is_lt there ≡ true → ⊥
-not_both Less Less e h k = let c : Less ≡ Greater = e in cc
-not_both Less Equal e h k = false≢true k
-not_both Less Greater e h k = false≢true k
-not_both Equal there e h k = false≢true h
-not_both Greater there e h k = false≢true h
 
 -- no two clubs rank before each other
 pub ranks_before-both : (sheet : Sheet) (season : Results) (lots : List ℕ) (club other : ℕ)

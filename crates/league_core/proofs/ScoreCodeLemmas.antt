@@ -4,16 +4,15 @@ use Rattle.std.proofs.Common.{◌≡◌, ℕ, zero, suc, ◌≤◌, true, List, 
 use Rattle.std.proofs.Common.{Option, Some, None, sym, ap, refl, ◌∙◌, arith, leb}
 use Rattle.std.specs.List.{list_all}
 use Rattle.std.proofs.lemmas.List.{map-set}
-use Rattle.std.proofs.lemmas.Bool.{leb-true}
+use Rattle.std.proofs.lemmas.Bool.{leb-true, and_parts}
 use Rattle.league_core.specs.declared.season.Score.{Score}
 use Rattle.league_core.specs.game.Results.{Results, is_score, is_score_or_none, are_results}
 use Rattle.league_core.specs.inside.ScoreCodes.{score_code}
-use Rattle.league_core.proofs.ResultsLemmas.{both_of}
 
 -- the goals of a score that may be are below 100
 goals_below : (score : Score) → is_score score ≡ true → (score.home ≤ 99) × (score.away ≤ 99)
 goals_below score may_be =
-    let parts = both_of (leb score.home 99) (leb score.away 99) may_be in
+    let parts = and_parts (leb score.home 99) (leb score.away 99) may_be in
     (leb-true score.home 99 parts.0, leb-true score.away 99 parts.1)
 
 -- one code, one score
@@ -41,8 +40,8 @@ codes_name_scores [] [] all all' same = refl
 codes_name_scores [] (y ∷ ys) all all' same = cc
 codes_name_scores (x ∷ xs) [] all all' same = cc
 codes_name_scores (x ∷ xs) (y ∷ ys) all all' same =
-    let here = both_of (is_score_or_none x) (list_all is_score_or_none xs) all in
-    let there = both_of (is_score_or_none y) (list_all is_score_or_none ys) all' in
+    let here = and_parts (is_score_or_none x) (list_all is_score_or_none xs) all in
+    let there = and_parts (is_score_or_none y) (list_all is_score_or_none ys) all' in
     let head : x ≡ y = code_names_score x y here.0 there.0 cc in
     let tail : xs ≡ ys = codes_name_scores xs ys here.1 there.1 cc in
     λ i. head i ∷ tail i
@@ -52,8 +51,8 @@ pub codes_name_results : (season other : Results) → are_results season ≡ tru
     → are_results other ≡ true → map score_code season.scores ≡ map score_code other.scores
     → season.deductions ≡ other.deductions → season ≡ other
 codes_name_results season other may_be may_be' codes deductions =
-    let scores = codes_name_scores season.scores other.scores (both_of _ _ may_be).0
-    (both_of _ _ may_be').0 codes in
+    let scores = codes_name_scores season.scores other.scores (and_parts _ _ may_be).0
+    (and_parts _ _ may_be').0 codes in
     λ i. record { scores = scores i; deductions = deductions i }
 
 -- the code of a score that is written stands in the score's place

@@ -17,7 +17,7 @@ use Rattle.league_core.specs.game.HeadToHead.{by_head_to_head, are_level_in, lev
 use Rattle.league_core.specs.game.Ahead.{overall_of, by_overall, lead_within, lead_in}
 use Rattle.league_core.specs.game.Ahead.{first_sums_of, by_first_sums, are_level_overall}
 use Rattle.league_core.specs.game.Ahead.{level_overall, standing_by, standing_in, IsAheadIn}
-use Rattle.league_core.proofs.OrderingLemmas.{then_agree, then-two, then-three}
+use Rattle.league_core.proofs.plain.Orderings.{then_agree, then-two, then-three}
 
 -- by the first number at which two lists differ, lists are in a total order
 pub by_first_difference_total : IsTotalOrder by_first_difference

@@ -1,7 +1,6 @@
 -- What the order says of points, of lots that are a table that is wanted, and of events.
-use Rattle.std.proofs.Common.{◌≡◌, ℕ, ◌<◌, ◌<ℤ◌, ◌≤ℤ◌, true, List, [], ◌∷◌, ◌++◌, length}
-use Rattle.std.proofs.Common.{Ordering, Less, Equal, Greater, is_lt, nat_cmp, refl, sym}
-use Rattle.std.proofs.Common.{◌∙◌, ap}
+use Rattle.std.proofs.Common.{◌≡◌, ℕ, ◌<◌, ◌<ℤ◌, ◌≤ℤ◌, true, List, [], ◌∷◌, ◌++◌, length, Ordering}
+use Rattle.std.proofs.Common.{Less, Equal, Greater, is_lt, nat_cmp, refl, sym, ◌∙◌, ap}
 use Rattle.std.specs.Ordering.{ordering_then, ordering_reverse}
 use Rattle.std.proofs.lemmas.Bool.{false≢true}
 use Rattle.std.proofs.lemmas.Int.{by_lt_z}
@@ -14,9 +13,9 @@ use Rattle.league_core.specs.game.Sums.{points_of}
 use Rattle.league_core.specs.game.Ahead.{standing_in}
 use Rattle.league_core.specs.game.Ranking.{lot_of, tied_group_of, order_of, ranks_before}
 use Rattle.league_core.specs.inside.LotsFor.{order_without_lots}
-use Rattle.league_core.proofs.OrderingLemmas.{nat_cmp-less, nat_cmp-greater, int_cmp-less}
 use Rattle.league_core.proofs.RankingLemmas.{order_of-lots, order_of_total}
 use Rattle.league_core.proofs.RankingLemmas.{order_without_lots_total}
+use Rattle.league_core.proofs.plain.Orderings.{nat_cmp-less, nat_cmp-greater, int_cmp-less}
 
 -- more points come first
 pub order_of-points : (sheet : Sheet) (season : Results) (lots : List ℕ) (club other : ℕ)

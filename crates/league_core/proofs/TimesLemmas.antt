@@ -17,8 +17,8 @@ use Rattle.league_core.specs.game.HeadToHead.{level_with}
 use Rattle.league_core.specs.game.Ahead.{by_overall, lead_within, lead_in, by_first_sums}
 use Rattle.league_core.specs.game.Ahead.{are_level_overall, level_overall, standing_by}
 use Rattle.league_core.specs.laws.StandingLaws.{lead_by_the_rule, standing_by_the_rule}
-use Rattle.league_core.proofs.OrderingLemmas.{then_agree, then-two}
 use Rattle.league_core.proofs.StandingLemmas.{by_head_to_head_total, by_first_sums_total}
+use Rattle.league_core.proofs.plain.Orderings.{then_agree, then-two}
 
 -- the clubs level with one are no more than the group
 pub level_with-le : (sheet : Sheet) (season : Results) (group : List ℕ) (club : ℕ)

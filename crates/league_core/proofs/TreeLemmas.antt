@@ -1,8 +1,8 @@
 -- Trees, their nodes and their leaves: facts of all nodes, how many nodes there are, and what the
 -- leaves say of the whole tree.
-use Rattle.std.proofs.Common.{◌≡◌, ℕ, ◌+◌, ◌*◌, ◌≤◌, true, false, ◌&&◌, ◌||◌, ◌==◌}
-use Rattle.std.proofs.Common.{List, [], ◌++◌, map, filter, length, refl, sym, ap, ◌∙◌, inl, inr}
-use Rattle.std.proofs.Common.{arith, length-append}
+use Rattle.std.proofs.Common.{◌≡◌, ℕ, ◌+◌, ◌*◌, ◌≤◌, true, false, ◌&&◌, ◌||◌, ◌==◌, List, [], ◌++◌}
+use Rattle.std.proofs.Common.{map, filter, length, refl, sym, ap, ◌∙◌, inl, inr, arith}
+use Rattle.std.proofs.Common.{length-append}
 use Rattle.std.specs.List.{list_any, list_all, All}
 use Rattle.std.proofs.lemmas.Bool.{cases_Bool}
 use Rattle.std.proofs.lemmas.List.{map-append}
@@ -18,7 +18,7 @@ use Rattle.league_core.specs.search.Trees.{has_open, is_refuted}
 use Rattle.league_core.specs.inside.Leaves.{Leaf, leaves_from, is_open_leaf, is_lent_under}
 use Rattle.league_core.specs.inside.Leaves.{is_refuted_leaf}
 use Rattle.league_core.specs.inside.Lending.{lent_zones}
-use Rattle.league_core.proofs.PlainLemmas.{one_if-most}
+use Rattle.league_core.proofs.plain.TruthValues.{one_if-most}
 
 -- a fact of each node gives what it implies there
 pub NodesMeet-weaker : (Fact Other : List Literal → TreeNode → Type 0)

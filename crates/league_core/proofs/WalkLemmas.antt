@@ -17,9 +17,9 @@ use Rattle.league_core.specs.game.Sums.{has_club}
 use Rattle.league_core.specs.game.ClubSets.{clubs_below, clubs_in}
 use Rattle.league_core.proofs.ClubLemmas.{has_club-append}
 use Rattle.league_core.proofs.ClubSetLemmas.{has_club-filter, has_club-range_from, filter_agree_in}
-use Rattle.league_core.proofs.ClubSetLemmas.{clubs_below-filter, filter-filter}
-use Rattle.league_core.proofs.ClubSetLemmas.{has_club-clubs_below}
+use Rattle.league_core.proofs.ClubSetLemmas.{clubs_below-filter, has_club-clubs_below}
 use Rattle.league_core.proofs.ClubCountLemmas.{member_below, few_members}
+use Rattle.league_core.proofs.plain.Filters.{filter-filter}
 
 -- the numbers of a run that pass a test are the first of them, and those that are not that one
 filter_first : (p : ℕ → Bool) (from count first : ℕ) → from ≤ first → first < from + count

@@ -11,6 +11,7 @@ use Rattle.league_core.specs.search.Options.{is_home_win, is_draw, is_away_win}
 use Rattle.league_core.specs.search.PointRanges.{points_of_sides, won_points, drawn_points}
 use Rattle.league_core.specs.search.PointRanges.{lost_points}
 use Rattle.league_core.specs.inside.Extents.{IsNearZero}
+use Rattle.league_core.proofs.plain.Numbers.{add_none, none_add}
 
 -- ---- one side
 
@@ -63,14 +64,6 @@ both_sides true false x y m n e f = omega (arith, ints)
 both_sides false true x y m n e f = omega (arith, ints)
 both_sides false false x y m n e f = refl
 
-none_left : (b : Bool) (m : ℕ) → m + cond b 0 0 ≡ m
-none_left true m = omega arith
-none_left false m = omega arith
-
-none_right : (b : Bool) (m : ℕ) → cond b 0 0 + m ≡ m
-none_right true m = omega arith
-none_right false m = omega arith
-
 -- the points of the two sides after a home win, a draw and an away win
 pub sides_at_win : (score : Score) → is_home_win score ≡ true
     → (match_points score.home score.away false ≡ pos 3)
@@ -102,7 +95,7 @@ points_at_win home away score won =
     let sides = sides_at_win score won in
     both_sides home away (match_points score.home score.away false)
     (match_points score.away score.home true) 3 0 sides.0 sides.1
-    ∙ ap pos (none_left away (won_points home))
+    ∙ ap pos (add_none away (won_points home))
 
 pub points_at_draw : (home away : Bool) (score : Score) → is_draw score ≡ true
     → points_of_sides home away score ≡ pos (drawn_points home away)
@@ -117,7 +110,7 @@ points_at_loss home away score lost =
     let sides = sides_at_loss score lost in
     both_sides home away (match_points score.home score.away false)
     (match_points score.away score.home true) 0 3 sides.0 sides.1
-    ∙ ap pos (none_right home (lost_points away))
+    ∙ ap pos (none_add home (lost_points away))
 
 -- none of them gives more than three points
 pub won_points-most : (home : Bool) → won_points home ≤ 3

@@ -116,15 +116,14 @@ impl Board {
         self.open.get(usize::from(place)).copied()
     }
 
-    /// How many open matches a club has.
-    pub fn open_of(&self, club: u8) -> i32 {
-        let mut count: i32 = 0;
+    /// How many open matches each club has.
+    pub fn open_counts(&self) -> [i32; 24] {
+        let mut counts = [0; 24];
         for open in &self.open {
-            if open.is_of(club) {
-                count = count.saturating_add(1);
-            }
+            add_count(&mut counts, open.sides.home);
+            add_count(&mut counts, open.sides.away);
         }
-        count
+        counts
     }
 
     /// What all matches of a club add up to; its points are less those taken off.
@@ -153,13 +152,24 @@ impl Board {
         }
     }
 
-    /// Swaps two results of a club, as it sees them.
-    pub fn swap(&mut self, one: u16, other: u16, club: u8) {
-        if let (Some(first), Some(second)) = (self.at(one), self.at(other)) {
-            let is_turned = (first.sides.home == club) != (second.sides.home == club);
-            self.put(one, turned_if(is_turned, second.score));
-            self.put(other, turned_if(is_turned, first.score));
+    /// Gives each open match the score that it has among these, by the fixtures' numbers.
+    pub fn put_all(&mut self, scores: &[Option<Score>]) {
+        for place in 0..self.count() {
+            if let Some(open) = self.at(place) {
+                let given = scores.get(usize::from(open.fixture)).copied().flatten();
+                self.put(place, given.unwrap_or(open.score));
+            }
         }
+    }
+
+    /// The scores of two open matches of a club with its results swapped, as it sees them.
+    pub fn swapped(&self, one: u16, other: u16, club: u8) -> Option<(Score, Score)> {
+        let (first, second) = (self.at(one)?, self.at(other)?);
+        let is_turned = (first.sides.home == club) != (second.sides.home == club);
+        Some((
+            turned_if(is_turned, second.score),
+            turned_if(is_turned, first.score),
+        ))
     }
 
     /// The season with these scores of its open matches.
@@ -190,6 +200,12 @@ fn give(season: &mut Season, open: &OpenMatch) {
     let is_there = usize::from(fixture) < season.scores().len();
     if is_there && score.home <= 99 && score.away <= 99 {
         season.apply(&Event::Set { fixture, score });
+    }
+}
+
+fn add_count(counts: &mut [i32; 24], club: u8) {
+    if club < 24 {
+        counts[club as usize] = counts[club as usize].saturating_add(1);
     }
 }
 

@@ -6,6 +6,7 @@ ghost use Rattle.league_core.specs.game.Questions.{IsExample};
 ghost use Rattle.league_core.specs.game.Finishes.{IsFinishOf};
 
 use crate::board::Board;
+use crate::start::Start;
 use crate::trials::Trials;
 use example_finish::try_example;
 use league_core::{Finish, Lots, OutOfMemory, Question, Season, Sheet};
@@ -26,24 +27,51 @@ pub fn walk(
     ensures { IfOk result (λ found. IfSome found (λ example.
         IsExample sheet.now season.now question.now example.0 example.1)) }
 {
-    match ended(alloc, sheet, season, question, trials)? {
+    match ended(alloc, sheet, season, question, None, trials)? {
         Some(ended) => example_of(alloc, sheet, season, question, ended),
         None => Ok(None),
     }
 }
 
-// The season as it ends where a walk finds nothing missing.
+/// The same, by a walk that begins where a finish ends: the scores of the season stay, and each
+/// open match has that of the finish first.
+pub fn walk_from(
+    alloc: Global,
+    sheet: &Sheet,
+    season: &Season,
+    question: &Question,
+    from: &Finish,
+    trials: u32,
+) -> Result<Option<(Finish, Lots)>, OutOfMemory>
+    requires league { IsLeague sheet.now season.now }
+    requires in_range { question.now.club < length sheet.now.clubs }
+    ensures { IfOk result (λ found. IfSome found (λ example.
+        IsExample sheet.now season.now question.now example.0 example.1)) }
+{
+    match ended(alloc, sheet, season, question, Some(from), trials)? {
+        Some(ended) => example_of(alloc, sheet, season, question, ended),
+        None => Ok(None),
+    }
+}
+
+// The season as it ends where a walk finds nothing missing: one from this finish, or from one that
+// favours the claim.
 fn ended(
     alloc: Global,
     sheet: &Sheet,
     season: &Season,
     question: &Question,
+    from: Option<&Finish>,
     trials: u32,
 ) -> Result<Option<Season>, OutOfMemory>
     requires { IsLeague sheet.now season.now }
 {
-    let board = Board::of(alloc, sheet, season)?;
+    let mut board = Board::of(alloc, sheet, season)?;
     let clubs = sheet.clubs.len() as u8;
+    match from {
+        Some(finish) => board.put_all(finish.as_season().scores()),
+        None => Start::of(&board, question, clubs, sheet.goal_limit).set(&mut board),
+    }
     let mut walk = Trials::begin(alloc, sheet, question, board, clubs)?;
     if walk.run(trials) {
         Ok(Some(walk.board().ended(alloc, season)?))

@@ -3,6 +3,32 @@
 
 use score_box::Totals;
 
+/// What counts in the matches among a group.
+#[derive(Clone, Copy, Debug, PartialEq, Eq)]
+pub struct Record {
+    points: i32,
+    difference: i32,
+    goals: i32,
+}
+
+impl Record {
+    /// That of a row.
+    pub fn of(row: &Totals) -> Record {
+        Record {
+            points: row.points,
+            difference: row.difference,
+            goals: row.goals,
+        }
+    }
+
+    /// Takes a row more.
+    pub fn add(&mut self, row: &Totals) {
+        self.points = self.points.wrapping_add(row.points);
+        self.difference = self.difference.wrapping_add(row.difference);
+        self.goals = self.goals.wrapping_add(row.goals);
+    }
+}
+
 /// Which of two clubs comes first, and the weight of the criterion that says so.
 #[derive(Clone, Copy, Debug, PartialEq, Eq)]
 pub struct Lead {
@@ -24,7 +50,7 @@ impl Lead {
     }
 
     /// By points, difference and goals in the matches among a group; none where these are level.
-    pub fn in_group(rival: &Totals, own: &Totals) -> Option<Lead> {
+    pub fn in_group(rival: &Record, own: &Record) -> Option<Lead> {
         Lead::by(rival.points, own.points, 300)
             .or(Lead::by(rival.difference, own.difference, 200))
             .or(Lead::by(rival.goals, own.goals, 190))

@@ -12,10 +12,12 @@ mod example;
 mod lead;
 mod live;
 mod row;
+mod spread;
+mod standing;
 mod start;
 mod tie_cost;
 mod trials;
 mod walking_solver;
 
-pub use example::walk;
+pub use example::{walk, walk_from};
 pub use walking_solver::WalkingSolver;

@@ -1,6 +1,6 @@
 //! Which open matches a walk changes.
 
-use crate::board::Board;
+use crate::board::{Board, OpenMatch};
 use crate::start::has_window;
 use league_core::{ClubSet, OutOfMemory, Question};
 use std::alloc::Global;
@@ -43,25 +43,42 @@ pub fn own_matches(alloc: Global, board: &Board, club: u8) -> Result<Vec<u16>, O
 // The clubs that can come to the club's points, by matches that are not against it.
 fn live_clubs(board: &Board, question: &Question) -> ClubSet {
     let points = board.row(question.club).points;
+    let ranges = ranges_of(board, question.club);
     let mut live = ClubSet::empty();
     for rival in 0..24 {
-        let (least, most) = range_of(board, question.club, rival);
-        live = live.with_if(least <= points && points <= most, rival);
+        let (least, room) = ranges[rival as usize];
+        let is_live = least <= points && points <= least.saturating_add(room);
+        live = live.with_if(is_live, rival);
     }
     live
 }
 
-// The least and the most points of a rival, with its results against the club.
-fn range_of(board: &Board, club: u8, rival: u8) -> (i32, i32) {
-    let mut least = board.row(rival).points;
-    let mut room: i32 = 0;
+// The least points of each rival, with its results against the club, and how many more it can take.
+fn ranges_of(board: &Board, club: u8) -> [(i32, i32); 24] {
+    let mut ranges = [(0, 0); 24];
+    for rival in 0..24 {
+        ranges[rival as usize] = (board.row(rival).points, 0);
+    }
     for place in 0..board.count() {
-        if let Some(open) = board.at(place) {
-            if open.is_of(rival) && !open.is_of(club) {
-                least = least.saturating_sub(open.points_of(rival));
-                room = room.saturating_add(3);
-            }
+        widen_by(&mut ranges, board, place, club);
+    }
+    ranges
+}
+
+// Takes an open match out of what its sides have, unless it is the club's.
+fn widen_by(ranges: &mut [(i32, i32); 24], board: &Board, place: u16, club: u8) {
+    if let Some(open) = board.at(place) {
+        if !open.is_of(club) {
+            widen(ranges, &open, open.sides.home);
+            widen(ranges, &open, open.sides.away);
         }
     }
-    (least, least.saturating_add(room))
+}
+
+fn widen(ranges: &mut [(i32, i32); 24], open: &OpenMatch, side: u8) {
+    if side < 24 {
+        let (least, room) = ranges[side as usize];
+        let won = open.points_of(side);
+        ranges[side as usize] = (least.saturating_sub(won), room.saturating_add(3));
+    }
 }

@@ -48,3 +48,20 @@ pub fn home_change(old: Score, new: Score) -> Totals {
 pub fn away_change(old: Score, new: Score) -> Totals {
     parted(&away_row(new), &away_row(old))
 }
+
+/// What another score of a match changes in points, for the home side and for the away side.
+pub fn points_change(old: Score, new: Score) -> (i32, i32) {
+    let (old_home, old_away) = points_of(old);
+    let (home, away) = points_of(new);
+    (home.wrapping_sub(old_home), away.wrapping_sub(old_away))
+}
+
+fn points_of(score: Score) -> (i32, i32) {
+    if score.away < score.home {
+        (3, 0)
+    } else if score.home == score.away {
+        (1, 1)
+    } else {
+        (0, 3)
+    }
+}

@@ -38,7 +38,8 @@ impl<'a> Start<'a> {
     /// Gives each open match the score that it has where the walk begins.
     pub fn set(&self, board: &mut Board) {
         let club = self.question.club;
-        let played = board.row(club).points.saturating_sub(board.open_of(club));
+        let drawn = number_of(&board.open_counts(), club);
+        let played = board.row(club).points.saturating_sub(drawn);
         for place in 0..board.count() {
             if let Some(open) = board.at(place) {
                 board.put(place, self.score_of(&open));
@@ -135,7 +136,8 @@ pub fn has_window(question: &Question) -> bool {
     -i32::from(MOST_DEDUCTION) < question.low || question.high < i32::from(MOST_POINTS)
 }
 
-fn rivals_of(question: &Question, clubs: u8) -> ClubSet {
+/// All clubs of the sheet but that of the question.
+pub fn rivals_of(question: &Question, clubs: u8) -> ClubSet {
     let mut rivals = ClubSet::empty();
     for rival in 0..24 {
         rivals = rivals.with_if(rival < clubs && rival != question.club, rival);
@@ -146,20 +148,20 @@ fn rivals_of(question: &Question, clubs: u8) -> ClubSet {
 // Twice the points of each club and three for each match that it has open, where these count as
 // drawn.
 fn keys_of(board: &Board) -> [i32; 24] {
-    let mut keys = [0; 24];
+    let mut keys = board.open_counts();
     for club in 0..24 {
-        let points = board.row(club).points;
-        keys[club as usize] = points.saturating_mul(2).saturating_add(board.open_of(club));
+        let points = board.row(club).points.saturating_mul(2);
+        keys[club as usize] = points.saturating_add(keys[club as usize]);
     }
     keys
 }
 
 // How many rivals have a greater key, or the same and a lower number.
 fn count_before(keys: &[i32; 24], rivals: ClubSet, rival: u8) -> u8 {
-    let own = key_of(keys, rival);
+    let own = number_of(keys, rival);
     let mut before: u8 = 0;
     for other in 0..24 {
-        let key = key_of(keys, other);
+        let key = number_of(keys, other);
         if rivals.has(other) && (own < key || own == key && other < rival) {
             before = before.saturating_add(1);
         }
@@ -167,6 +169,6 @@ fn count_before(keys: &[i32; 24], rivals: ClubSet, rival: u8) -> u8 {
     before
 }
 
-fn key_of(keys: &[i32; 24], club: u8) -> i32 {
-    keys.get(club as usize).copied().unwrap_or(0)
+fn number_of(numbers: &[i32; 24], club: u8) -> i32 {
+    numbers.get(club as usize).copied().unwrap_or(0)
 }

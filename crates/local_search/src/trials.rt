@@ -1,11 +1,14 @@
 //! The trials of a walk: one change of the finish at a time, kept where it does not cost more.
 
 use crate::board::Board;
-use crate::cost::cost;
+use crate::cost::Cost;
 use crate::draws::Draws;
 use crate::live::{live_matches, own_matches};
-use crate::start::{Start, has_window};
-use league_core::{OutOfMemory, Question, Score, Sheet};
+use crate::row::points_change;
+use crate::standing::Standing;
+use crate::start::has_window;
+use crate::tie_cost::TieCosts;
+use league_core::{Fixture, OutOfMemory, Question, Score, Sheet};
 use std::alloc::Global;
 
 /// A walk on its way.
@@ -13,17 +16,16 @@ use std::alloc::Global;
 pub struct Trials<'a> {
     sheet: &'a Sheet,
     question: &'a Question,
-    clubs: u8,
     board: Board,
+    standing: Standing,
     live: Vec<u16>,
     own: Vec<u16>,
     draws: Draws,
-    cost: u32,
+    cost: Cost,
 }
 
 impl<'a> Trials<'a> {
-    /// A walk that begins at a finish that favours the claim. In the board all open matches end
-    /// 0:0.
+    /// A walk that begins at the finish of the board.
     pub fn begin(
         alloc: Global,
         sheet: &'a Sheet,
@@ -31,16 +33,16 @@ impl<'a> Trials<'a> {
         board: Board,
         clubs: u8,
     ) -> Result<Trials<'a>, OutOfMemory> {
-        let mut board = board;
-        Start::of(&board, question, clubs, sheet.goal_limit).set(&mut board);
         let live = live_matches(alloc, &board, question)?;
         let own = own_matches(alloc, &board, question.club)?;
-        let cost = cost(&board, sheet, question, clubs);
+        let standing = Standing::of(alloc, &board, question, clubs)?;
+        let ties = TieCosts::of(&board, sheet, question);
+        let cost = Cost::of(&ties, &standing, standing.least(u32::MAX));
         Ok(Trials {
             sheet,
             question,
-            clubs,
             board,
+            standing,
             live,
             own,
             draws: Draws::of(question),
@@ -73,21 +75,22 @@ impl<'a> Trials<'a> {
     // Goes through so many finishes of the live matches, until nothing is missing.
     fn go_through(&mut self, finishes: u32) -> bool {
         for number in 0..finishes {
-            if self.cost == 0 {
+            if self.cost.total == 0 {
                 return true;
             }
             self.set_live(number);
-            self.cost = cost(&self.board, self.sheet, self.question, self.clubs);
+            self.cost = self.cost_here(u32::MAX);
         }
-        self.cost == 0
+        self.cost.total == 0
     }
 
     // Gives each live match the score that a digit of the number says, to the base of five.
     fn set_live(&mut self, number: u32) {
         let mut left = number;
-        for place in &self.live {
-            let score = score_of(self.sheet.goal_limit, left % 5);
-            self.board.put(*place, score);
+        for at in 0..self.live.len() {
+            if let Some(place) = self.live.get(at).copied() {
+                self.put(place, score_of(self.sheet.goal_limit, left % 5));
+            }
             left /= 5;
         }
     }
@@ -95,13 +98,13 @@ impl<'a> Trials<'a> {
     // Changes one thing at a time, so often.
     fn try_changes(&mut self, trials: u32) -> bool {
         for trial in 0..trials {
-            if self.cost == 0 {
+            if self.cost.total == 0 {
                 return true;
             }
             let slack = self.slack(trial);
             self.make(slack);
         }
-        self.cost == 0
+        self.cost.total == 0
     }
 
     /// The finish that it has come to.
@@ -139,16 +142,41 @@ impl<'a> Trials<'a> {
         }
     }
 
+    // Looks first at what points tell: most changes cost too much by these.
     fn try_score(&mut self, place: Option<u16>, slack: u32) {
         let Some(place) = place else { return };
         let Some(open) = self.board.at(place) else {
             return;
         };
         let score = self.drawn_score(open.score);
-        self.board.put(place, score);
-        if !self.keeps(slack) {
-            self.board.put(place, open.score);
+        let most = self.cost.total.saturating_add(slack);
+        self.count(open.sides, open.score, score);
+        let least = self.standing.least(most);
+        if most < least {
+            self.count(open.sides, score, open.score);
+            return;
         }
+        self.board.put(place, score);
+        let cost = self
+            .cost
+            .after(&self.ties(), &self.standing, open.sides, least);
+        if !self.keeps(cost, most) {
+            self.put(place, open.score);
+        }
+    }
+
+    // Gives an open match a score.
+    fn put(&mut self, place: u16, score: Score) {
+        if let Some(open) = self.board.at(place) {
+            self.count(open.sides, open.score, score);
+            self.board.put(place, score);
+        }
+    }
+
+    // Counts the points of another score.
+    fn count(&mut self, sides: Fixture, old: Score, new: Score) {
+        let (home, away) = points_change(old, new);
+        self.standing.add(sides, home, away);
     }
 
     // One of five scores; the next of them where the match has that already.
@@ -166,21 +194,39 @@ impl<'a> Trials<'a> {
         let one = self.draws.one_of(&self.own);
         let other = self.draws.one_of(&self.own);
         if let (Some(one), Some(other)) = (one, other) {
-            self.board.swap(one, other, self.question.club);
-            if !self.keeps(slack) {
-                self.board.swap(one, other, self.question.club);
+            let most = self.cost.total.saturating_add(slack);
+            self.swap(one, other);
+            let cost = self.cost_here(most);
+            if !self.keeps(cost, most) {
+                self.swap(one, other);
             }
         }
     }
 
+    // Swaps two results of the club.
+    fn swap(&mut self, one: u16, other: u16) {
+        if let Some((first, second)) = self.board.swapped(one, other, self.question.club) {
+            self.put(one, first);
+            self.put(other, second);
+        }
+    }
+
     // The change is kept, where it does not cost more than may be.
-    fn keeps(&mut self, slack: u32) -> bool {
-        let cost = cost(&self.board, self.sheet, self.question, self.clubs);
-        if self.cost.saturating_add(slack) < cost {
+    fn keeps(&mut self, cost: Cost, most: u32) -> bool {
+        if most < cost.total {
             return false;
         }
         self.cost = cost;
         true
+    }
+
+    // That of the finish as it stands; if it is more than `most`, only some number that is.
+    fn cost_here(&self, most: u32) -> Cost {
+        Cost::of(&self.ties(), &self.standing, self.standing.least(most))
+    }
+
+    fn ties(&self) -> TieCosts {
+        TieCosts::of(&self.board, self.sheet, self.question)
     }
 }
 

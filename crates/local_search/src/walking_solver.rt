@@ -14,14 +14,10 @@ use score_box::Played;
 use std::alloc::Global;
 use std::marker::Model;
 
-/// The zone of one question, of those that come in a row, at which it walks.
-const WALKS_AT: u32 = 50;
-/// The trials of a walk.
-const TRIALS: u32 = 2000;
-
-/// Another solver, with a walk once a question has had 50 zones in a row: most questions are
-/// settled before, and of the others many have examples that no proposed finish is. Contracts see
-/// the sheet and the season.
+/// Another solver, with a short walk once a question has had 100 zones in a row, and a long one
+/// once it has had 200: most questions are settled before, and of the others many have examples
+/// that no proposed finish is. Most of these come early in a walk, and one that finds none is to
+/// cost little beside the zones before it. Contracts see the sheet and the season.
 #[derive(Drop)]
 pub struct WalkingSolver<'a, W: Solver> {
     alloc: Global,
@@ -64,7 +60,7 @@ impl<'a, W: Solver> WalkingSolver<'a, W> {
         }
     }
 
-    // Counts a zone of a question; gives whether the walk is due.
+    // Counts a zone of a question; gives whether a walk is due.
     fn count(&mut self, question: &Question) -> bool
         ensures { self.new ≡ self.old }
     {
@@ -74,7 +70,7 @@ impl<'a, W: Solver> WalkingSolver<'a, W> {
             self.latest = Some(*question);
             self.zones = 1;
         }
-        self.zones == WALKS_AT
+        trials_at(self.zones) != 0
     }
 
     // The example of a walk.
@@ -83,7 +79,13 @@ impl<'a, W: Solver> WalkingSolver<'a, W> {
         ensures { IfOk result (λ found. IfSome found (λ finding. (zone : List Literal)
             → IsTrueFinding self.now.sheet self.now.season question.now zone finding)) }
     {
-        match walk(self.alloc, self.sheet, self.season, question, TRIALS)? {
+        match walk(
+            self.alloc,
+            self.sheet,
+            self.season,
+            question,
+            trials_at(self.zones),
+        )? {
             Some((finish, lots)) => Ok(Some(Finding::Won(finish, lots))),
             None => Ok(None),
         }
@@ -111,5 +113,14 @@ impl<'a, W: Solver> Solver for WalkingSolver<'a, W> {
             }
         }
         self.inner.solve(question, zone)
+    }
+}
+
+// The trials of a walk where a question has had so many zones in a row; 0 where none is due.
+fn trials_at(zones: u32) -> u32 {
+    match zones {
+        100 => 250,
+        200 => 2000,
+        _ => 0,
     }
 }

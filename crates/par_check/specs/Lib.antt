@@ -1,2 +1,8 @@
 -- Where an item may begin, and what is known of items that were judged.
-pub mod ItemPlaces
+pub mod FirstStops
+pub mod Shapes
+pub mod Outlines
+pub mod Cuts
+pub mod Batches
+pub mod Checked
+pub mod FeedAsks

@@ -8,7 +8,7 @@ ghost use Rattle.cert_check.specs.inside.InputCalls.{ChecksBy, ChecksInput, Coun
 ghost use Rattle.cert_check.specs.inside.InputCalls.{LeavesCheck, IfRead, outcome_after_feed};
 ghost use Rattle.cert_check.specs.inside.InputCalls.{outcome_after_sheet, IsShort, IsStoppedBy};
 
-use crate::progress::report_outcome;
+use crate::feed_report::report_outcome;
 use cert_check::{
     CheckFailure, CheckOutcome, FeedSoFar, LineList, LinesStop, ReportFault, read_feed, read_lines,
 };

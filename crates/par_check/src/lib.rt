@@ -1,21 +1,28 @@
-//! Reports checked with several processors: the items of a part are judged side by side, and the
-//! part is then gone over with what they came to.
+//! Reports checked with several processors.
 //!
-//! Where items begin is guessed by the rows of the report, and no promise rests on the guess: what
-//! is known of an item counts only if the item is due at that very position. So each answer is the
-//! one that `cert_check` gives by itself, line after line. `specs/ItemPlaces.antt` comes first.
+//! `check_all` cuts the answers to all asks into items by the grammar alone, judges the items side
+//! by side, and tells the first stop: `specs/FirstStops.antt` comes first, `specs/Checked.antt` has
+//! what it promises. `check_input` reads a whole input and checks its report by it.
 #![tactic(auto)]
 
-mod checking;
+mod asks;
+mod batch;
+mod cutting;
+mod feed_asks;
+mod feed_report;
+mod first;
 mod input;
-mod judge;
-mod known;
-mod places;
-mod progress;
-mod rows;
+mod item_due;
+mod item_head;
+mod item_rows;
+mod judging;
+mod laws;
+mod outline;
+mod report_check;
 
-pub use checking::check_part;
+pub use asks::{Asks, Cut, Item};
+pub use cutting::{CutRead, cut, read_cut};
 pub use input::check_input;
-pub use judge::judge_all;
-pub use known::KnownItem;
-pub use places::{Place, find_places};
+pub use judging::judge_item;
+pub use laws::{shapes_suffice, the_first_stop_is_told};
+pub use report_check::check_all;

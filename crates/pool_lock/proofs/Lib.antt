@@ -1,3 +1,2 @@
-pub mod PrefixLemmas
 mod ToldLemmas
 pub mod LentLemmas

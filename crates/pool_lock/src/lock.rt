@@ -75,7 +75,7 @@ impl<J: Job> PoolLock<J> {
         Ok((lock, front, badges))
     }
 
-    #[tactic(auto, using(crate::proofs::PrefixLemmas::prefix_onward))]
+    #[tactic(auto, using(league_core::proofs::plain::Prefixes::prefix_onward))]
     /// Takes from the pool as soon as the one who reports rests and there is work, or all is over.
     /// The badge has then seen all events of the pool, and the ticket is work in the season
     /// after that, by the number and the place that `take` gave it; if all is over the badge knows

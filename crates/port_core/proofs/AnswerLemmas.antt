@@ -3,7 +3,7 @@
 use Rattle.std.proofs.Common.{◌≡◌, ℕ, ◌+◌, ◌<◌, ◌≤◌, Bool, true, false, if◌then◌else◌, eqb, leb}
 use Rattle.std.proofs.Common.{eqb-true, List, ◌++◌, length, take, drop, Option, Some, None, Result}
 use Rattle.std.proofs.Common.{Ok, Err, refl, ap, sym, ◌∙◌, subst, arith}
-use Rattle.std.specs.Prelude.{option_map, IfSome, MatchBool}
+use Rattle.std.specs.Prelude.{option_map, IfSome}
 use Rattle.std.specs.Io.KnownBytes.{prepend_known, IsAtEnd}
 use Rattle.std.proofs.lemmas.List.{length-take}
 use Rattle.std.proofs.lemmas.Bool.{leb-true, leb-false}
@@ -11,8 +11,7 @@ use Rattle.std.proofs.lemmas.Bool.Decides.{nat_tests}
 use Rattle.port_core.specs.declared.line.Line.{Line}
 use Rattle.port_core.specs.declared.line.Line.TheVariants.{Text, End}
 use Rattle.port_core.specs.declared.line.ReadStop.{ReadStop}
-use Rattle.port_core.specs.declared.line.ReadStop.TheVariants.{ReadFault, LineTooLong}
-use Rattle.port_core.specs.declared.line.ReadStop.TheVariants.{InputTooLong}
+use Rattle.port_core.specs.declared.line.ReadStop.TheVariants.{ReadFault, LineTooLong, InputTooLong}
 use Rattle.port_core.specs.Lines.{lines_of}
 use Rattle.port_core.specs.inside.Buffers.{EndsAt, IsPartial}
 use Rattle.port_core.specs.Contents.{position_after, number_at, content_at, is_skipped, stop_due}
@@ -21,8 +20,10 @@ use Rattle.port_core.specs.Readers.{LineReaderView, contents_after, contents_to_
 use Rattle.port_core.specs.inside.ReaderCalls.{HasStop, NextGives, LineGives, LeavesAfter}
 use Rattle.port_core.specs.inside.ReaderCalls.{GivesLine, EndsLine, EndsInput}
 use Rattle.port_core.proofs.StopLemmas.{contents-stopped, stop-held, stop-ended}
-use Rattle.port_core.proofs.ContentLemmas.{contents-ended, contents-last, contents-end, length-zero}
+use Rattle.port_core.proofs.ContentLemmas.{contents-ended, contents-last, contents-end}
 use Rattle.port_core.proofs.ContentLemmas.{length-content}
+use Rattle.league_core.proofs.plain.Parts.{length-zero}
+use Rattle.league_core.proofs.plain.Options.{match_bool}
 
 option_map-same : (known : Option Contents) → option_map (λ contents. contents) known ≡ known
 option_map-same None = refl
@@ -86,12 +87,6 @@ GivesLine-leaves old new left end behind result given short some =
     (omega (arith, ap (λ r. r.position.bytes) given.2.1))
     (sym (ap (λ r. r.position.lines) given.2.1))
     (omega (arith, length-content old.position text, length-take end old.held))
-
--- a fact by cases on a test
-pub match_bool : (b : Bool) (A B P : Type 0) → MatchBool b A B → (b ≡ true → A → P)
-    → (b ≡ false → B → P) → P
-match_bool true A B P fact when unless = when refl fact
-match_bool false A B P fact when unless = unless refl fact
 
 gives-stop : (stop : ReadStop) (before after : Option Contents) (text : List ℕ)
     → IfSome before (λ contents. contents ≡ ended (Err stop)) → before ≡ after

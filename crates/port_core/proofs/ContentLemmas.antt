@@ -11,8 +11,7 @@ use Rattle.port_core.specs.Lines.{lines_of, text_of_line, HasNoLineFeed}
 use Rattle.port_core.specs.inside.Buffers.{EndsAt}
 use Rattle.port_core.specs.Contents.{Position, position_after, byte_order_mark, without_mark}
 use Rattle.port_core.specs.Contents.{without_return, number_at, content_at, line_stop, ended}
-use Rattle.port_core.specs.Contents.{Contents, with_content, with_lines, contents_by}
-use Rattle.port_core.specs.Contents.{contents_from}
+use Rattle.port_core.specs.Contents.{Contents, with_content, with_lines, contents_by, contents_from}
 use Rattle.port_core.specs.Readers.{contents_after}
 use Rattle.port_core.proofs.LineLemmas.{lines_of-open, text_of_line-ended, text_of_line-open}
 use Rattle.port_core.proofs.FirstLineLemmas.{first_line-ended}
@@ -83,10 +82,6 @@ contents-last position held known (Some left) is end none some short inside =
     ap (contents_after position) is
     ∙ ap Some (contents-line position (lines_of (held ++ left)) (lines_of (drop size held ++ left))
     held (take size held) size first text refl (stop-none position held room inside))
-
-pub length-zero : (bytes : List ℕ) → length bytes ≡ 0 → bytes ≡ []
-length-zero [] none = refl
-length-zero (byte ∷ bytes) none = absurd (omega arith)
 
 pub contents-end : (position : Position) (held : List ℕ) (known left : Option (List ℕ))
     → known ≡ prepend_known held left → IsAtEnd left → held ≡ []

@@ -24,7 +24,7 @@ use Rattle.port_core.proofs.LineLemmas.{concat-lines_of, text_of_line-ended}
 use Rattle.port_core.proofs.FirstLineLemmas.{first_line-ended}
 use Rattle.port_core.proofs.StopLemmas.{stop-ready, stop-inside, stop-held, stop-ended}
 use Rattle.port_core.proofs.StopLemmas.{length-ended}
-use Rattle.port_core.proofs.AnswerLemmas.{match_bool}
+use Rattle.league_core.proofs.plain.Options.{match_bool}
 
 stop-from : (found : Option ReadStop) (whole more : Bool) → whole ≡ false
     → (is_some found || whole && more) ≡ true → (stop : ReadStop) × (found ≡ Some stop)

@@ -23,7 +23,7 @@ use Rattle.port_core.proofs.LineLemmas.{lines_of-open, text_of_line-ended, text_
 use Rattle.port_core.proofs.FirstLineLemmas.{first_line-ended}
 use Rattle.port_core.proofs.StopLemmas.{length-ended, stop-none, stop-inside}
 use Rattle.port_core.proofs.ContentLemmas.{contents-line}
-use Rattle.port_core.proofs.AnswerLemmas.{match_bool}
+use Rattle.league_core.proofs.plain.Options.{match_bool}
 
 -- ---- none, and some after others
 

@@ -1,16 +1,11 @@
 -- Rows that go out in pieces: the pieces taken in turn are a prefix of the row.
-use Rattle.std.proofs.Common.{◌≡◌, ℕ, ◌+◌, ◌<◌, ◌≤◌, List, ◌++◌, length, take, drop, Option, Some}
-use Rattle.std.proofs.Common.{None, refl, ap, sym, ◌∙◌, arith, append_assoc, length-drop}
+use Rattle.std.proofs.Common.{◌≡◌, ℕ, ◌+◌, ◌<◌, ◌≤◌, List, ◌++◌, length, take, drop, Option, ap}
+use Rattle.std.proofs.Common.{sym, ◌∙◌, arith, length-drop}
 use Rattle.std.specs.Io.KnownBytes.{append_known}
 use Rattle.std.proofs.Math.Seq.{take-add}
 use Rattle.std.proofs.lemmas.List.{take-append-drop}
 use Rattle.port_core.specs.Ports.{AppendsPrefix}
-
--- two texts put after known bytes in turn are their joined text put there at once
-pub append_known-append_known : (known : Option (List ℕ)) (first second : List ℕ)
-    → append_known (append_known known first) second ≡ append_known known (first ++ second)
-append_known-append_known None first second = refl
-append_known-append_known (Some bytes) first second = ap Some (append_assoc bytes first second)
+use Rattle.league_core.proofs.plain.Streams.{append_known-append_known}
 
 -- one more piece of a row went out after its prefix
 pub Writes-more : (start old new : Option (List ℕ)) (row rest : List ℕ) (done count : ℕ)

@@ -1,7 +1,7 @@
 -- Bytes taken from a source and bytes passed, one line after the other.
 use Rattle.std.proofs.Common.{◌≡◌, ℕ, ◌+◌, ◌<◌, ◌≤◌, Bool, true, false, if◌then◌else◌, eqb, leb}
 use Rattle.std.proofs.Common.{List, [], ◌++◌, length, take, Option, Some, None, Result, Ok, Err}
-use Rattle.std.proofs.Common.{refl, ap, sym, ◌∙◌, subst, arith, append_assoc, length-append}
+use Rattle.std.proofs.Common.{refl, ap, sym, ◌∙◌, subst, arith, length-append}
 use Rattle.std.specs.Prelude.{option_map}
 use Rattle.std.specs.Io.KnownBytes.{prepend_known}
 use Rattle.std.proofs.lemmas.Bool.{leb-false}
@@ -12,9 +12,10 @@ use Rattle.port_core.specs.declared.line.ReadStop.{ReadStop}
 use Rattle.port_core.specs.declared.line.ReadStop.TheVariants.{InputTooLong}
 use Rattle.port_core.specs.Contents.{number_at, content_at, is_skipped}
 use Rattle.port_core.specs.Readers.{LineReaderView, TakesInput}
-use Rattle.port_core.specs.inside.ReaderCalls.{LeavesAfter, GivesLine, EndsLine, EndsInput}
-use Rattle.port_core.specs.inside.ReaderCalls.{MovesOn, LineMovesOn}
-use Rattle.port_core.proofs.AnswerLemmas.{match_bool}
+use Rattle.port_core.specs.inside.ReaderCalls.{LeavesAfter, GivesLine, EndsLine, EndsInput, MovesOn}
+use Rattle.port_core.specs.inside.ReaderCalls.{LineMovesOn}
+use Rattle.league_core.proofs.plain.Options.{match_bool}
+use Rattle.league_core.proofs.plain.Streams.{prepend-prepend}
 
 -- only the bytes passed before the call count
 pub LeavesAfter-at : (old entry new : LineReaderView) (left : Option (List ℕ))
@@ -25,12 +26,6 @@ LeavesAfter-at old entry new left None same leaves =
 LeavesAfter-at old entry new left (Some result) same leaves = leaves
 
 -- ---- one line after the other
-
--- bytes known after two others are known after both joined
-pub prepend-prepend : (first second : List ℕ) (known : Option (List ℕ))
-    → prepend_known first (prepend_known second known) ≡ prepend_known (first ++ second) known
-prepend-prepend first second None = refl
-prepend-prepend first second (Some bytes) = ap Some (sym (append_assoc first second bytes))
 
 -- bytes taken in turn are bytes taken
 pub TakesInput-more : (a b c : LineReaderView) (first second third : Option (List ℕ))

@@ -8,8 +8,7 @@ use Rattle.std.proofs.lemmas.Option.{none-some}
 use Rattle.port_core.specs.declared.line.Line.{Line}
 use Rattle.port_core.specs.declared.line.Line.TheVariants.{Text, End}
 use Rattle.port_core.specs.declared.line.ReadStop.{ReadStop}
-use Rattle.port_core.specs.declared.line.ReadStop.TheVariants.{ReadFault, LineTooLong}
-use Rattle.port_core.specs.declared.line.ReadStop.TheVariants.{InputTooLong}
+use Rattle.port_core.specs.declared.line.ReadStop.TheVariants.{ReadFault, LineTooLong, InputTooLong}
 use Rattle.port_core.specs.declared.buffer.Due.{Due}
 use Rattle.port_core.specs.declared.buffer.Due.TheVariants.{Ended, Open, Failed, Stuck, Full}
 use Rattle.port_core.specs.Lines.{lines_of, text_of_line, HasNoLineFeed}
@@ -17,8 +16,7 @@ use Rattle.port_core.specs.inside.Buffers.{CountsDue, EndSeen, LastFill, StopsRe
 use Rattle.port_core.specs.Contents.{Position, position_after, number_at, content_at, is_skipped}
 use Rattle.port_core.specs.Contents.{stop_due, is_whole, has_answer}
 use Rattle.port_core.specs.Readers.{LineReaderView, HasAnswer, stream_of, contents_after}
-use Rattle.port_core.specs.Readers.{contents_to_come}
-use Rattle.port_core.specs.Readers.{bytes_taken, TakesInput}
+use Rattle.port_core.specs.Readers.{contents_to_come, bytes_taken, TakesInput}
 use Rattle.port_core.specs.inside.ReaderCalls.{HasStop, LineGives, LeavesAfter, LineMovesOn}
 use Rattle.port_core.specs.inside.ReaderCalls.{KeepsAnswer, AnswersStop, PassesTo, given_there}
 use Rattle.port_core.specs.inside.ReaderCalls.{LastRead, ReadsInNeed, LineStopsReading}
@@ -29,8 +27,9 @@ use Rattle.port_core.proofs.AnswerLemmas.{stop-gives}
 use Rattle.port_core.proofs.HandLemmas.{Ended-keeps, Ended-stops, KeepsAnswer-none, no_answer-open}
 use Rattle.port_core.proofs.HandLemmas.{none-answers, stop-answers}
 use Rattle.port_core.proofs.TakingLemmas.{Ended-moves, LeavesAfter-at, LineMovesOn-at, Open-moves}
-use Rattle.port_core.proofs.TakingLemmas.{TakesInput-more, prepend-prepend}
+use Rattle.port_core.proofs.TakingLemmas.{TakesInput-more}
 use Rattle.port_core.proofs.PassingLemmas.{Ended-passes, Open-passes, passes-before, passes-stays}
+use Rattle.league_core.proofs.plain.Streams.{prepend-prepend}
 
 -- ---- what the bytes in hand show
 

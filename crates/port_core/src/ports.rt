@@ -1,7 +1,7 @@
 //! What a run reads from and writes to. Each call may fail, and a count of faults rises when it
 //! does.
 
-ghost use Rattle.std.specs.Prelude.{ℕ, ◌<◌, Bool, List, Option, length, ⊤};
+ghost use Rattle.std.specs.Prelude.{ℕ, ◌<◌, Bool, List, Option, length};
 ghost use Rattle.port_core.specs.Ports.{CountsRead, CountsWrite, HoldsOfRead, Reads, TellsEnd};
 ghost use Rattle.port_core.specs.Ports.{Writes};
 
@@ -26,8 +26,9 @@ pub trait Source {
 
     ghost faults: { Self → ℕ };
 
-    // A read of the source in the first state gave these bytes, and left the second.
-    ghost reads: { Self → List ℕ → Self → Type 0 } = { λ _ _ _. ⊤ };
+    // A read of the source in the first state gave these bytes, and left the second. Each source
+    // says so itself: the clauses on the last read speak of it.
+    ghost reads: { Self → List ℕ → Self → Type 0 };
 
     // Whether a read marked the end, by giving no byte. Each source says so itself: the clauses on
     // a read that failed speak of it.

@@ -1,9 +1,7 @@
 -- The least points that a club can reach are at least -99: match points are never negative, and no
 -- more than 99 points are taken off.
-use Rattle.std.proofs.Common.{◌≡◌, ℕ, ℤ, pos, negsuc, ◌≤ℤ◌, true}
-use Rattle.std.proofs.Common.{List, [], ◌∷◌, arith}
-use Rattle.std.specs.Int.{int_min}
-use Rattle.std.proofs.lemmas.Int.{ints, clamps}
+use Rattle.std.proofs.Common.{◌≡◌, ℕ, ℤ, pos, negsuc, ◌≤ℤ◌, true, List, [], ◌∷◌, arith}
+use Rattle.std.proofs.lemmas.Int.{ints}
 use Rattle.league_core.specs.declared.sheet.Sheet.{Sheet}
 use Rattle.league_core.specs.declared.sheet.Fixture.{Fixture}
 use Rattle.league_core.specs.declared.season.Score.{Score}
@@ -12,9 +10,7 @@ use Rattle.league_core.specs.search.Options.{options_in}
 use Rattle.league_core.specs.search.PointRanges.{range_of, range_from, points_together}
 use Rattle.league_core.specs.search.PointRanges.{least_points_of}
 use Rattle.league_core.proofs.PointsLemmas.{match_worth, results-deductions, deduction-le}
-
-least_of_two : (a b : ℤ) → pos 0 ≤ℤ a → pos 0 ≤ℤ b → pos 0 ≤ℤ int_min a b
-least_of_two a b h k = omega (arith, ints, clamps)
+use Rattle.league_core.proofs.plain.Numbers.{int_min-not_negative}
 
 -- if no option gives less than nothing, neither does the least
 range_not_negative : (value : Score → ℤ) → ((score : Score) → pos 0 ≤ℤ value score)
@@ -22,7 +18,7 @@ range_not_negative : (value : Score → ℤ) → ((score : Score) → pos 0 ≤�
 range_not_negative value each [] = omega (arith, ints)
 range_not_negative value each (score ∷ []) = each score
 range_not_negative value each (score ∷ other ∷ options) =
-    least_of_two (value score) ((range_of value (other ∷ options)).least) (each score)
+    int_min-not_negative (value score) ((range_of value (other ∷ options)).least) (each score)
     (range_not_negative value each (other ∷ options))
 
 -- nor does their sum

@@ -1,7 +1,7 @@
 -- Examples of questions with a window: the club's points lie in it, and between the least and the
 -- most that the club can reach; and when a window is moved over them, the example stays one.
-use Rattle.std.proofs.Common.{◌≡◌, ℕ, ℤ, pos, negsuc, ◌≤ℤ◌, true, List, []}
-use Rattle.std.proofs.Common.{◌∷◌, refl, sym, subst, arith, int_le, nat_le}
+use Rattle.std.proofs.Common.{◌≡◌, ℕ, ℤ, pos, negsuc, ◌≤ℤ◌, true, List, [], ◌∷◌, refl, sym, subst}
+use Rattle.std.proofs.Common.{arith, int_le, nat_le}
 use Rattle.std.specs.List.{list_all}
 use Rattle.std.proofs.lemmas.Bool.{and_parts, and_from}
 use Rattle.std.proofs.lemmas.Int.{ints}
@@ -19,14 +19,7 @@ use Rattle.league_core.proofs.PointsLemmas.{points_in_full_window, results-deduc
 use Rattle.reason_laws.proofs.MemberLemmas.{member_in_box, points_in_box}
 use Rattle.reason_laws.proofs.ReasonLemmas.{holds_parts}
 use Rattle.qual_scores.specs.Scores.{question_between}
-
--- the first is at most the second, as a test has it
-pub le_from : (a b : ℤ) → a ≤ℤ b → int_le a b ≡ true
-le_from a b h = grind (arith, ints)
-
--- and the other way round
-pub from_le : (a b : ℤ) → int_le a b ≡ true → a ≤ℤ b
-from_le a b h = grind (arith, ints)
+use Rattle.league_core.proofs.plain.Numbers.{int_le-to, int_le-from}
 
 -- the club's points at an example lie in its window
 pub record AreBetween (low points high : ℤ) : Type 0 where
@@ -57,7 +50,7 @@ example_moved sheet season club line claim low high new_low new_high finish lots
       holds = and_from (is_in_window new points)
           (is_on_side (is_inside sheet finish lots club line) claim)
           (and_from (int_le new_low points) (int_le points new_high)
-          (le_from new_low points within.least) (le_from points new_high within.most))
+          (int_le-from new_low points within.least) (int_le-from points new_high within.most))
           parts.2;
     }
 
@@ -90,6 +83,6 @@ points_are_full sheet season question finish lots league results example =
     let parts = and_parts (int_le (negsuc 98) (points_of sheet finish question.club))
     (int_le (points_of sheet finish question.club) (pos 1800)) full in
     record {
-      least = from_le (negsuc 98) (points_of sheet finish question.club) parts.0;
-      most = from_le (points_of sheet finish question.club) (pos 1800) parts.1;
+      least = int_le-to (negsuc 98) (points_of sheet finish question.club) parts.0;
+      most = int_le-to (points_of sheet finish question.club) (pos 1800) parts.1;
     }

@@ -1,34 +1,28 @@
 -- Ranges and their halves: where the middle lies, and how many numbers are left.
 use Rattle.std.proofs.Common.{◌≡◌, ℕ, ◌<◌, ℤ, pos, negsuc, ◌+ℤ◌, ◌-ℤ◌, ◌≤ℤ◌, ◌<ℤ◌, arith, w32, to_z}
-use Rattle.std.proofs.Common.{of_z, sym, ap, ◌∙◌}
-use Rattle.std.proofs.Common.{true, false}
+use Rattle.std.proofs.Common.{of_z, sym, ap, ◌∙◌, true, false}
 use lib.Signed.{lt_z}
 use Rattle.std.proofs.lemmas.Int.{ints, to_z-of_z}
 use Rattle.qual_scores.specs.declared.point_range.PointRange.{PointRange}
 use Rattle.qual_scores.specs.Bisections.{IsMiddleOf}
+use Rattle.league_core.proofs.plain.Numbers.{lt_z-true, lt_z-false}
 
 -- points are read back as they are written
 pub kept : (points : ℤ) → negsuc 98 ≤ℤ points → points ≤ℤ pos 1802
     → to_z w32 (of_z w32 points) ≡ points
 kept points least most = to_z-of_z w32 points (omega (arith, ints))
 
-less_of : (a b : ℤ) → lt_z a b ≡ true → a <ℤ b
-less_of a b h = grind (arith, ints)
-
-not_less_of : (a b : ℤ) → lt_z a b ≡ false → b ≤ℤ a
-not_less_of a b h = grind (arith, ints)
-
 -- what a test of two points says, which are read back
 pub read_less : (a b : ℤ) → to_z w32 (of_z w32 a) ≡ a → to_z w32 (of_z w32 b) ≡ b
     → lt_z (to_z w32 (of_z w32 a)) (to_z w32 (of_z w32 b)) ≡ true → a <ℤ b
 read_less a b one other h =
-    less_of a b (sym (ap (λ z. lt_z z b) one)
+    lt_z-true a b (sym (ap (λ z. lt_z z b) one)
     ∙ sym (ap (lt_z (to_z w32 (of_z w32 a))) other) ∙ h)
 
 pub read_not_less : (a b : ℤ) → to_z w32 (of_z w32 a) ≡ a → to_z w32 (of_z w32 b) ≡ b
     → lt_z (to_z w32 (of_z w32 a)) (to_z w32 (of_z w32 b)) ≡ false → b ≤ℤ a
 read_not_less a b one other h =
-    not_less_of a b (sym (ap (λ z. lt_z z b) one)
+    lt_z-false a b (sym (ap (λ z. lt_z z b) one)
     ∙ sym (ap (lt_z (to_z w32 (of_z w32 a))) other) ∙ h)
 
 -- a number that is not negative

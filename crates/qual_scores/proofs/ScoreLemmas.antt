@@ -1,6 +1,6 @@
 -- The least number of which something is true that is decided, and so the two scores.
-use Rattle.std.proofs.Common.{◌≡◌, ◌⊎◌, inl, inr, ℕ, zero, suc, ◌+◌, ℤ, pos, negsuc, ◌+ℤ◌}
-use Rattle.std.proofs.Common.{◌-ℤ◌, ◌≤ℤ◌, ◌↔◌, true, false, int_le, [], ◌∷◌, sym, subst, arith}
+use Rattle.std.proofs.Common.{◌≡◌, ◌⊎◌, inl, inr, ℕ, zero, suc, ◌+◌, ℤ, pos, negsuc, ◌+ℤ◌, ◌≤ℤ◌}
+use Rattle.std.proofs.Common.{◌↔◌, true, false, int_le, [], ◌∷◌, sym, subst, arith}
 use Rattle.std.proofs.lemmas.Bool.{cases_Bool}
 use Rattle.std.proofs.lemmas.Int.{ints}
 use Rattle.league_core.specs.declared.sheet.Sheet.{Sheet}
@@ -16,9 +16,9 @@ use Rattle.qual_scores.specs.Scores.{IsLeastOf, IsPossibleScore, HasNoPossibleSc
 use Rattle.qual_scores.specs.Scores.{CanBeInsideWith, IsInsideFrom, IsGuaranteedScore}
 use Rattle.qual_scores.specs.Scores.{question_between}
 use Rattle.qual_scores.specs.Bisections.{HoldsOfPoints, IsNotAbove, first_range}
-use Rattle.qual_scores.proofs.PointLemmas.{from_le}
 use Rattle.qual_scores.proofs.WindowLemmas.{inside_found, inside_none, outside_found, outside_none}
 use Rattle.qual_scores.proofs.SearchLemmas.{first_below, possible_most, none_past_reach}
+use Rattle.league_core.proofs.plain.Numbers.{int_le-to, distance}
 
 -- ---- least numbers
 
@@ -58,21 +58,11 @@ least_upto Holds low (suc count) decided below found =
         → ¬ (other ≤ℤ (low +ℤ pos count)) → points ≤ℤ other
     last points other most above =
         elim (cases_Bool (int_le other (low +ℤ pos count))) as (λ _. points ≤ℤ other) [
-          | inl less ↦ absurd (above (from_le other (low +ℤ pos count) less))
+          | inl less ↦ absurd (above (int_le-to other (low +ℤ pos count) less))
           | inr more ↦
               let behind = past other (low +ℤ pos count) more in
               omega (arith, ints)
         ]
-
--- how far a number is above another
-distance : (low points : ℤ) → low ≤ℤ points → (count : ℕ) × (low +ℤ pos count ≡ points)
-distance low points above =
-    from (points -ℤ low) (omega (arith, ints)) (omega (arith, ints))
-  where
-    from : (gap : ℤ) → pos 0 ≤ℤ gap → low +ℤ gap ≡ points
-        → (count : ℕ) × (low +ℤ pos count ≡ points)
-    from (pos n) least is = (n, is)
-    from (negsuc n) least is = absurd (omega (arith, ints))
 
 least_there : (Holds : ℤ → Type 0) (low points : ℤ) → IsDecidedFrom Holds low
     → ((other : ℤ) → Holds other → low ≤ℤ other) → Holds points

@@ -1,8 +1,6 @@
 -- The range of a search: how it begins, what an answer makes of it, and what is known at its end.
-use Rattle.std.proofs.Common.{◌≡◌, ℕ, ℤ, pos, negsuc, ◌+ℤ◌, ◌≤ℤ◌, ◌<ℤ◌, [], ◌∷◌}
-use Rattle.std.proofs.Common.{refl, sym, ap, ◌∙◌, subst, arith, inl, inr, int_le, false, Vec}
-use Rattle.std.proofs.Common.{Global}
-use Rattle.std.proofs.Common.{w32, to_z, of_z}
+use Rattle.std.proofs.Common.{◌≡◌, ℕ, ℤ, pos, negsuc, ◌+ℤ◌, ◌≤ℤ◌, ◌<ℤ◌, [], ◌∷◌, refl, sym, ap, ◌∙◌}
+use Rattle.std.proofs.Common.{subst, arith, inl, inr, int_le, false, Vec, Global, w32, to_z, of_z}
 use Rattle.std.proofs.lemmas.Bool.{cases_Bool}
 use Rattle.std.specs.Int.{int_max}
 use Rattle.std.proofs.lemmas.Int.{ints, clamps}
@@ -16,9 +14,8 @@ use Rattle.qual_scores.specs.declared.window.ScoreQuery.{ScoreQuery}
 use Rattle.qual_scores.specs.Scores.{question_between, CanBeInsideWith, IsInsideFrom, IsLeastOf}
 use Rattle.qual_scores.specs.Scores.{HasNoPossibleScore}
 use Rattle.qual_scores.specs.Bisections.{HoldsOfPoints, IsNotAbove, IsOnTheWay, at_first}
-use Rattle.qual_scores.specs.Bisections.{to_lower_half}
-use Rattle.qual_scores.specs.Bisections.{to_upper_half, IsMiddleOf, first_range, IsAskedHalfway}
-use Rattle.qual_scores.specs.Bisections.{ShowsRange}
+use Rattle.qual_scores.specs.Bisections.{to_lower_half, to_upper_half, IsMiddleOf, first_range}
+use Rattle.qual_scores.specs.Bisections.{IsAskedHalfway, ShowsRange}
 use Rattle.qual_scores.specs.Bounds.{IsRightBound}
 use Rattle.qual_scores.specs.inside.Searching.{HoldsOf, IsNarrowed, IsFirstReach, IsWindowAnswer}
 use Rattle.cert_text.specs.declared.proof_line.ProofLine.{ProofLine}
@@ -26,8 +23,9 @@ use Rattle.answer_rows.specs.declared.bound.Bound.{Bound}
 use Rattle.answer_rows.specs.declared.bound.Bound.TheVariants.{Between}
 use Rattle.qual_scores.specs.declared.window.WindowAnswer.{WindowAnswer}
 use Rattle.qual_scores.specs.declared.window.WindowAnswer.TheVariants.{NotAbove, Above, Spent}
-use Rattle.qual_scores.proofs.PointLemmas.{points_in_window, points_in_reach, from_le}
+use Rattle.qual_scores.proofs.PointLemmas.{points_in_window, points_in_reach}
 use Rattle.qual_scores.proofs.PointRangeLemmas.{middle_within, kept}
+use Rattle.league_core.proofs.plain.Numbers.{int_le-to}
 
 -- ---- the first ranges
 
@@ -153,7 +151,7 @@ upper_half sheet season sought range middle narrowed several is above =
     behind : (a b : ℤ) → ¬ (a ≤ℤ b) → (b +ℤ pos 1) ≤ℤ a
     behind a b h =
         elim (cases_Bool (int_le a b)) as (λ _. (b +ℤ pos 1) ≤ℤ a) [
-          | inl le ↦ absurd (h (from_le a b le))
+          | inl le ↦ absurd (h (int_le-to a b le))
           | inr more ↦ past a b more
         ]
 

@@ -1,7 +1,7 @@
 -- What a window question says of the number that is sought. Both windows grow or shrink with the
 -- points, so one answer decides all numbers on one side of them.
-use Rattle.std.proofs.Common.{◌≡◌, ℕ, ℤ, pos, negsuc, ◌≤ℤ◌, true, false, List, arith}
-use Rattle.std.proofs.Common.{◌<◌, ◌&&◌, length, refl, sym, ap, ◌∙◌, subst, int_le, Vec, Global}
+use Rattle.std.proofs.Common.{◌≡◌, ℕ, ℤ, pos, negsuc, ◌≤ℤ◌, true, false, List, arith, ◌<◌, ◌&&◌}
+use Rattle.std.proofs.Common.{length, refl, sym, ap, ◌∙◌, subst, int_le, Vec, Global}
 use Rattle.std.specs.List.{list_all}
 use Rattle.std.proofs.lemmas.Bool.{and_from}
 use Rattle.std.proofs.lemmas.Int.{ints}
@@ -30,10 +30,9 @@ use Rattle.qual_scores.specs.declared.window.ScoreQuery.{ScoreQuery}
 use Rattle.qual_scores.specs.Scores.{question_between, CanBeInsideWith, IsInsideFrom}
 use Rattle.qual_scores.specs.Bisections.{IsNotAbove, window_question}
 use Rattle.qual_scores.specs.inside.Searching.{MayBeAsked, IsWindowAnswer, window_answer}
-use Rattle.qual_scores.specs.inside.Searching.{question_sought}
-use Rattle.qual_scores.specs.inside.Searching.{least_asked}
+use Rattle.qual_scores.specs.inside.Searching.{question_sought, least_asked}
 use Rattle.qual_scores.proofs.PointLemmas.{points_in_window, example_moved, points_are_full}
-use Rattle.qual_scores.proofs.PointLemmas.{le_from}
+use Rattle.league_core.proofs.plain.Numbers.{int_le-from}
 
 -- a club that can be inside with at most so many points can be so with some of these
 pub inside_found : (sheet : Sheet) (season : Results) (club line : ℕ) (low points : ℤ)
@@ -151,7 +150,7 @@ window_in_range sought points may = by_claim sought.claim may
   where
     both : (z : ℤ) → negsuc 98 ≤ℤ z → z ≤ℤ pos 1800 → are_points z ≡ true
     both z least most = and_from (int_le (negsuc 98) z) (int_le z (pos 1800))
-        (le_from (negsuc 98) z least) (le_from z (pos 1800) most)
+        (int_le-from (negsuc 98) z least) (int_le-from z (pos 1800) most)
 
     by_claim : (claim : Claim) → MayBeAsked claim points
         → (are_points (window_question sought.club sought.line claim points).low

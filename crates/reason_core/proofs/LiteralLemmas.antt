@@ -1,5 +1,5 @@
 -- What `==` says of literals and of tests: that they are the same.
-use Rattle.std.proofs.Common.{◌≡◌, ℕ, refl, ap, Bool, true, false, ◌&&◌, ◌==◌}
+use Rattle.std.proofs.Common.{◌≡◌, ap}
 use Rattle.std.specs.Bool.{Decides}
 use Rattle.std.proofs.lemmas.Bool.Decides.{Decides-eqb, Decides-and}
 use mathlib.Core.Bool.{beq}
@@ -8,10 +8,8 @@ use Rattle.league_core.specs.declared.zone.Test.TheVariants.{Home, Draw, HomeMos
 use Rattle.league_core.specs.declared.zone.Literal.{Literal}
 use Rattle.league_core.specs.contracts.zone.TestPartialEq.TheImpl as test_eq
 use Rattle.league_core.specs.contracts.zone.LiteralPartialEq.TheImpl as literal_eq
-
--- two numbers are equal on both sides, or the pairs differ
-two_decided : (a b c d : ℕ) → Decides ((a == c) && (b == d)) ((a ≡ c) × (b ≡ d))
-two_decided a b c d = Decides-and (a == c) (b == d) (Decides-eqb a c) (Decides-eqb b d)
+use Rattle.league_core.proofs.plain.TruthValues.{bools_decided}
+use Rattle.league_core.proofs.plain.Numbers.{pairs_decided}
 
 -- equal tests are the same
 pub tests_decided : (a b : Test) → Decides (test_eq.eq-value.it a b) (a ≡ b)
@@ -20,18 +18,12 @@ tests_decided (Home f) (Home g) =
 tests_decided (Draw f) (Draw g) =
     (λ h. ap Draw ((Decides-eqb f g).0 h), λ e. (Decides-eqb f g).1 cc)
 tests_decided (HomeMost f m) (HomeMost g n) =
-    (λ h. let both = (two_decided f m g n).0 h in cc, λ e. (two_decided f m g n).1 ((cc), (cc)))
+    (λ h. let both = (pairs_decided f m g n).0 h in cc, λ e. (pairs_decided f m g n).1 ((cc), (cc)))
 tests_decided (AwayMost f m) (AwayMost g n) =
-    (λ h. let both = (two_decided f m g n).0 h in cc, λ e. (two_decided f m g n).1 ((cc), (cc)))
+    (λ h. let both = (pairs_decided f m g n).0 h in cc, λ e. (pairs_decided f m g n).1 ((cc), (cc)))
 tests_decided (Rival f) (Rival g) =
     (λ h. ap Rival ((Decides-eqb f g).0 h), λ e. (Decides-eqb f g).1 cc)
 tests_decided a b = (λ h. cc, λ e. cc)
-
--- equal truth values are the same
-bools_decided : (a b : Bool) → Decides (beq a b) (a ≡ b)
-bools_decided true true = (λ h. refl, λ e. refl)
-bools_decided false false = (λ h. refl, λ e. refl)
-bools_decided a b = (λ h. cc, λ e. cc)
 
 -- equal literals are the same
 pub literals_decided : (a b : Literal) → Decides (literal_eq.eq-value.it a b) (a ≡ b)

@@ -1,10 +1,9 @@
 -- How many finishes a zone has: what a test of a score takes of them, and that a test of a rival
 -- takes none.
 use Rattle.std.proofs.Common.{◌≡◌, ℕ, suc, ◌+◌, ◌*◌, ◌<◌, ◌≤◌, Bool, true, false, not, ◌&&◌, ◌||◌}
-use Rattle.std.proofs.Common.{◌==◌, nat_lt, List, [], ◌∷◌, length, filter, Option, Some, None}
-use Rattle.std.proofs.Common.{refl, sym, ap, ◌∙◌, inl, inr, arith}
+use Rattle.std.proofs.Common.{◌==◌, nat_lt, List, [], ◌∷◌, length, filter, Option, Some, None, refl}
+use Rattle.std.proofs.Common.{ap, ◌∙◌, inl, inr, arith}
 use Rattle.std.specs.List.{list_all}
-use Rattle.std.proofs.Math.Nat.{add-mul, mul-add}
 use Rattle.std.proofs.lemmas.Nat.{mul-le}
 use Rattle.std.proofs.lemmas.Bool.{false≢true, eq-eqb, ne_eqb, cases_eq, ltb-true}
 use Rattle.std.proofs.lemmas.List.Sums.{length-filter}
@@ -25,7 +24,9 @@ use Rattle.league_core.proofs.FinishListLemmas.{length-scores_up_to}
 use Rattle.reason_laws.specs.inside.Weights.{choices, finishes_in}
 use Rattle.league_core.proofs.HalfLemmas.{list_all-with, options_of-off, options_from-off}
 use Rattle.reason_laws.proofs.HalfMarkLemmas.{proper_names}
-use Rattle.reason_laws.proofs.CountLemmas.{count_by-parts, filter-all}
+use Rattle.league_core.proofs.plain.Counts.{count_by-parts}
+use Rattle.league_core.proofs.plain.Filters.{filter-true}
+use Rattle.league_core.proofs.plain.Numbers.{divided, kept_divided}
 
 -- if each fixture has an option there is a choice
 choices_some : (options : List (List Score)) → list_all has_option options ≡ true
@@ -71,21 +72,6 @@ options_of-on limit zone test fixture played on =
     (λ score. list_all-with (meets_literal fixture score) zone test false
     ∙ ap (λ b. meets zone fixture score && (not b || not (passes test score))) on)
     (endings limit played)
-
--- products with one factor divided and the other kept
-pub divided : (a b c x y z : ℕ) → a + b ≡ c → x ≡ z → y ≡ z → a * x + b * y ≡ c * z
-divided a b c x y z sum first second =
-    ap (λ n. a * n + b * y) first
-    ∙ ap (λ n. a * z + b * n) second
-    ∙ sym (add-mul a b z)
-    ∙ ap (λ n. n * z) sum
-
-pub kept_divided : (a b c x y z : ℕ) → a ≡ c → b ≡ c → x + y ≡ z → a * x + b * y ≡ c * z
-kept_divided a b c x y z first second sum =
-    ap (λ n. n * x + b * y) first
-    ∙ ap (λ n. c * x + n * y) second
-    ∙ sym (mul-add c x y)
-    ∙ ap (λ n. c * n) sum
 
 -- a test on one of the fixtures divides the choices
 choices_divided : (limit : ℕ) (zone : List Literal) (test : Test) (tested : ℕ)
@@ -169,7 +155,7 @@ choices-all : (limit : ℕ) (season : List (Option Score)) (fixture : ℕ)
 choices-all limit [] fixture = refl
 choices-all limit (played ∷ season) fixture =
     ap (λ n. n * choices (options_from limit [] (suc fixture) season))
-    (ap length (filter-all (endings limit played)) ∙ length-endings limit played)
+    (ap length (filter-true (endings limit played)) ∙ length-endings limit played)
     ∙ ap (λ n. ways_to_end limit played * n) (choices-all limit season (suc fixture))
 
 pub root_finishes : (sheet : Sheet) (season : Results)

@@ -1,16 +1,12 @@
 -- A zone in which each fixture has one option decides itself: if neither the window nor the
 -- criteria are a reason, its finish is an example with lots that favour the claim.
-use Rattle.std.proofs.Common.{◌≡◌, ℕ, ◌+◌, ◌-◌, ◌<◌, ℤ, ◌≤ℤ◌, Bool, true, false}
-use Rattle.std.proofs.Common.{◌&&◌, ◌||◌, nat_lt, List, [], ◌∷◌, length}
-use Rattle.std.proofs.Common.{count_by, Ordering, Less, Equal, Greater, is_lt, nat_cmp, refl, sym}
-use Rattle.std.proofs.Common.{ap, ◌∙◌, arith}
+use Rattle.std.proofs.Common.{◌≡◌, ℕ, ◌+◌, ◌-◌, ◌<◌, ℤ, ◌≤ℤ◌, Bool, true, false, ◌&&◌, ◌||◌, nat_lt}
+use Rattle.std.proofs.Common.{List, [], ◌∷◌, length, count_by, is_lt, refl, sym, ap, ◌∙◌, arith}
 use Rattle.std.specs.Prelude.{int_lt, int_le}
 use Rattle.std.specs.List.{list_any}
-use Rattle.std.specs.Ordering.{ordering_then}
 use Rattle.std.proofs.lemmas.Int.{ints}
-use Rattle.std.proofs.lemmas.Bool.{false≢true, true≢false, and_from, or_parts, or_right}
-use Rattle.std.proofs.lemmas.Bool.{leb-false, le-leb, lt-leb, lt-ltb, ltb-true}
-use Rattle.std.proofs.lemmas.Bool.{false_from_ne_true, not_from_false}
+use Rattle.std.proofs.lemmas.Bool.{false≢true, and_from, or_parts, or_right, leb-false, le-leb}
+use Rattle.std.proofs.lemmas.Bool.{lt-leb, lt-ltb, ltb-true, not_from_false}
 use Rattle.std.proofs.lemmas.Bool.Decides.{Decides-int_eq}
 use Rattle.league_core.specs.declared.sheet.Sheet.{Sheet}
 use Rattle.league_core.specs.declared.season.Score.{Score}
@@ -33,37 +29,21 @@ use Rattle.league_core.specs.search.SureOrder.{is_above, is_below, sure_order}
 use Rattle.league_core.specs.search.Reasons.{has_reason, too_many, refutes_by_window}
 use Rattle.league_core.specs.search.Reasons.{refutes_by_tie, is_surely_above, is_surely_below}
 use Rattle.league_core.specs.search.Reasons.{are_too_many_sure, is_surely_wrong}
-use Rattle.league_core.proofs.OrderingLemmas.{is_lt-nat_cmp}
-use Rattle.league_core.proofs.ClubLemmas.{all_in_range}
 use Rattle.league_core.proofs.OthersLemmas.{length-others_of}
 use Rattle.league_core.proofs.RankingLemmas.{order_of-lots, ranks_before-itself}
 use Rattle.league_core.proofs.LotsLemmas.{lots_for_claim-are_lots, lots_for_claim-favoured}
 use Rattle.league_core.specs.search.Splits.{are_outcomes_fixed}
 use Rattle.reason_laws.specs.inside.SureLaws.{sure_of}
-use Rattle.reason_laws.proofs.MemberLemmas.{list_all-weaker, points_in_box}
-use Rattle.reason_laws.proofs.RivalCountLemmas.{count_by-front}
+use Rattle.reason_laws.proofs.MemberLemmas.{points_in_box}
+use Rattle.reason_laws.proofs.RivalCountLemmas.{count_by-front, count_by-rivals, count_by-both}
 use Rattle.league_core.proofs.BoxLemmas.{box_is_finish}
 use Rattle.reason_laws.proofs.SureOrderLemmas.{points_fixed}
 use Rattle.reason_laws.proofs.SingleLemmas.{single_fixed, order_is}
-use Rattle.reason_laws.proofs.RivalCountLemmas.{count_by-rivals, count_by-both}
-use Rattle.league_core.proofs.PlainLemmas.{int_lt-false}
-
--- who comes before a club that is drawn first comes before it without the lots
-first_less : (order : Ordering) (i j : ℕ) → j ≡ 0
-    → is_lt (ordering_then order (nat_cmp i j)) ≡ true → order ≡ Less
-first_less Less i j first before = refl
-first_less Greater i j first before = absurd (false≢true before)
-first_less Equal i j first before =
-    let low : i < j = ltb-true i j (sym (is_lt-nat_cmp i j) ∙ before) in
-    absurd (omega arith)
-
--- who does not come before a club that is drawn later comes after it without the lots
-last_greater : (order : Ordering) (i j : ℕ) → i < j
-    → is_lt (ordering_then order (nat_cmp i j)) ≡ false → order ≡ Greater
-last_greater Less i j last behind = absurd (true≢false behind)
-last_greater Greater i j last behind = refl
-last_greater Equal i j last behind =
-    absurd (true≢false (sym (is_lt-nat_cmp i j ∙ lt-ltb i j last) ∙ behind))
+use Rattle.league_core.proofs.plain.Runs.{all_in_range}
+use Rattle.league_core.proofs.plain.Lists.{list_all-weaker}
+use Rattle.league_core.proofs.plain.Numbers.{int_lt-false}
+use Rattle.league_core.proofs.plain.Orderings.{first_less, last_greater}
+use Rattle.league_core.proofs.plain.TruthValues.{and_second_fails}
 
 -- in a single zone a rival before the club is surely above it, if the club is drawn first
 before_is_above : (sheet : Sheet) (season : Results) (zone : List Literal) (finish : Results)
@@ -142,10 +122,6 @@ single_has_finish sheet season zone single =
     some [] one = one
     some (score ∷ options) one = refl
 
--- of two facts of which one holds it is the other that fails
-other_fails : (a b : Bool) → a ≡ true → ((a && b) ≡ true → ⊥) → b ≡ false
-other_fails a b is fails = false_from_ne_true b (λ holds. fails (and_from a b is holds))
-
 -- if the window is no reason, the points at the zone's finish are in it
 in_window : (sheet : Sheet) (season : Results) (question : Question) (zone : List Literal)
     (finish : Results) → is_single sheet season zone ≡ true → IsInBox sheet season zone finish
@@ -180,9 +156,9 @@ pub single_holds : (sheet : Sheet) (season : Results) (question : Question) (zon
 unfolding has_reason
 single_holds sheet season question zone finish lots club_in single no_window no_tie box favoured =
     let some = single_has_finish sheet season zone single in
-    let window = other_fails (has_finish sheet season zone) (refutes_by_window sheet season
+    let window = and_second_fails (has_finish sheet season zone) (refutes_by_window sheet season
     question zone) some no_window in
-    let tie = other_fails (has_finish sheet season zone) (refutes_by_tie sheet season question
+    let tie = and_second_fails (has_finish sheet season zone) (refutes_by_tie sheet season question
     zone) some no_tie in
     let few = other_half (are_outcomes_fixed sheet season zone) (are_too_many_sure sheet season
     question zone)

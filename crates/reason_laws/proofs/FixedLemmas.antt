@@ -1,7 +1,7 @@
 -- If the options of each fixture are alike, a sum has one value: points if they have one outcome,
 -- every sum if each fixture has one option.
-use Rattle.std.proofs.Common.{◌≡◌, ℕ, ℤ, pos, ◌+ℤ◌, Bool, true, false, ◌==◌, cond}
-use Rattle.std.proofs.Common.{List, [], ◌∷◌, refl, sym, ap, ◌∙◌, subst, inl, inr, arith}
+use Rattle.std.proofs.Common.{◌≡◌, ℕ, ℤ, pos, ◌+ℤ◌, Bool, true, false, ◌==◌, cond, List, [], ◌∷◌}
+use Rattle.std.proofs.Common.{refl, sym, ap, ◌∙◌, subst, inl, inr, arith}
 use Rattle.std.specs.List.{list_all}
 use Rattle.std.proofs.lemmas.Int.{ints}
 use Rattle.std.proofs.lemmas.Bool.{false≢true, and_parts, or_cases}
@@ -13,10 +13,10 @@ use Rattle.league_core.specs.search.Options.{has_score, same_outcome, has_one_sc
 use Rattle.league_core.specs.search.Options.{has_one_outcome}
 use Rattle.league_core.specs.search.PointRanges.{range_of, range_from, points_together}
 use Rattle.league_core.proofs.OptionLemmas.{same_score-true}
-use Rattle.reason_laws.proofs.MemberLemmas.{list_all-weaker}
 use Rattle.league_core.proofs.OutcomeLemmas.{one_of_three, same_outcome-itself}
 use Rattle.league_core.proofs.WorthLemmas.{sides_at_win, sides_at_draw, sides_at_loss}
 use Rattle.league_core.proofs.PointRangeLemmas.{least_reached, greatest_reached}
+use Rattle.league_core.proofs.plain.Lists.{list_all-weaker}
 
 -- the options have one value
 abbrev pub AreAlike : (Score → ℤ) → List Score → Type 0

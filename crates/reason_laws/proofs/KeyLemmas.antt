@@ -1,6 +1,6 @@
 -- Keys in a zone: each part is in its range, and a key no part of which is less is as great.
-use Rattle.std.proofs.Common.{◌≡◌, ℕ, ℤ, ◌≤ℤ◌, true, List, [], ◌∷◌, map, Ordering}
-use Rattle.std.proofs.Common.{refl, ap, ◌∙◌, inl, inr, arith, int_cmp}
+use Rattle.std.proofs.Common.{◌≡◌, ℕ, ℤ, ◌≤ℤ◌, true, List, [], ◌∷◌, map, Ordering, refl, ap, ◌∙◌}
+use Rattle.std.proofs.Common.{inl, inr, arith, int_cmp}
 use Rattle.std.specs.Prelude.{int_lt}
 use Rattle.std.specs.Ordering.{ordering_then, is_le}
 use Rattle.std.proofs.lemmas.Int.{ints}
@@ -15,12 +15,13 @@ use Rattle.league_core.specs.search.Options.{options_in, IsInBox}
 use Rattle.league_core.specs.search.PointRanges.{Range}
 use Rattle.league_core.specs.search.Keys.{key_of, is_key_from, key_ranges, low_key, high_key}
 use Rattle.league_core.specs.search.Keys.{AreAtMost}
-use Rattle.league_core.proofs.OrderingLemmas.{int_cmp-less, greater_first-same}
-use Rattle.league_core.proofs.PlainLemmas.{int_lt-true, int_lt-false}
+use Rattle.league_core.proofs.OrderingLemmas.{greater_first-same}
 use Rattle.reason_laws.proofs.MemberLemmas.{member_in_box}
 use Rattle.reason_laws.proofs.RangeOrderLemmas.{AreInRanges}
 use Rattle.reason_laws.proofs.SureLemmas.{over_in_range}
 use Rattle.reason_laws.proofs.SureOrderLemmas.{points_in_range}
+use Rattle.league_core.proofs.plain.Orderings.{int_cmp-less}
+use Rattle.league_core.proofs.plain.Numbers.{int_lt-true, int_lt-false}
 
 -- numbers in ranges are no less than the least ones
 least_at_most : (ranges : List Range) (parts : List ℤ) → AreInRanges ranges parts

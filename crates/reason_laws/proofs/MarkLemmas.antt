@@ -18,10 +18,10 @@ use Rattle.league_core.specs.search.Splits.{is_proper}
 use Rattle.league_core.proofs.OthersLemmas.{length-others_of}
 use Rattle.league_core.proofs.HalfLemmas.{no_rival, before_in_half, after_in_half}
 use Rattle.reason_laws.specs.inside.Weights.{unmarked_in}
-use Rattle.reason_laws.proofs.HalfMarkLemmas.{before_kept}
-use Rattle.reason_laws.proofs.HalfMarkLemmas.{after_kept}
-use Rattle.reason_laws.proofs.CountLemmas.{count_by-parts, count_by-filter, count_by-agree}
-use Rattle.reason_laws.proofs.CountLemmas.{count_by-one, filter-all}
+use Rattle.reason_laws.proofs.HalfMarkLemmas.{before_kept, after_kept}
+use Rattle.reason_laws.proofs.CountLemmas.{count_by-one}
+use Rattle.league_core.proofs.plain.Counts.{count_by-parts, count_by-filter, count_by-agree}
+use Rattle.league_core.proofs.plain.Filters.{filter-true}
 
 pub marks_kept : (zone : List Literal) (test : Test) (holds : Bool) (rival : ℕ)
     → is_of_score test ≡ true
@@ -137,5 +137,5 @@ pub root_unmarked : (sheet : Sheet) (question : Question) → question.club < le
     → unmarked_in sheet question [] + 1 ≡ length sheet.clubs
 root_unmarked sheet question club_in =
     let all = sym (length-filter (λ (rival : ℕ). true) (rivals_of sheet question.club))
-    ∙ ap length (filter-all (rivals_of sheet question.club)) in
+    ∙ ap length (filter-true (rivals_of sheet question.club)) in
     omega (arith, all, length-others_of (length sheet.clubs) question.club club_in)

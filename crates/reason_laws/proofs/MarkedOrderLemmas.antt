@@ -1,13 +1,8 @@
 -- The order of the clubs at a member of a zone: who ranks before another has as many points or
 -- more, and the zone's marks are so.
-use Rattle.std.proofs.Common.{◌≡◌, ℕ, ℤ, ◌≤ℤ◌, Bool, true}
-use Rattle.std.proofs.Common.{false, not, ◌&&◌, List, [], ◌∷◌}
-use Rattle.std.proofs.Common.{refl, sym, ap, ◌∙◌, inl, inr}
-use Rattle.std.specs.Ordering.{int_cmp, is_lt, ordering_then}
-use Rattle.std.specs.declared.cmp.Ordering.{Ordering}
-use Rattle.std.proofs.lemmas.Int.{by_lt_z}
-use Rattle.std.proofs.lemmas.Bool.{false≢true, true≢false, and_parts}
-use Rattle.std.proofs.lemmas.Bool.{or_cases, eqb-true}
+use Rattle.std.proofs.Common.{◌≡◌, ℕ, ◌≤ℤ◌, Bool, true, false, not, ◌&&◌, List, [], ◌∷◌, refl, sym}
+use Rattle.std.proofs.Common.{ap, ◌∙◌, inl, inr}
+use Rattle.std.proofs.lemmas.Bool.{false≢true, and_parts, or_cases, eqb-true}
 use Rattle.league_core.specs.declared.sheet.Sheet.{Sheet}
 use Rattle.league_core.specs.declared.zone.Test.{Test}
 use Rattle.league_core.specs.declared.zone.Test.TheVariants.{Home, Draw, HomeMost, AwayMost, Rival}
@@ -17,21 +12,13 @@ use Rattle.league_core.specs.game.Sums.{points_of}
 use Rattle.league_core.specs.game.Ranking.{ranks_before}
 use Rattle.league_core.specs.search.Zones.{is_of_rival, is_test_true, is_as_said, is_literal_true}
 use Rattle.league_core.specs.search.Zones.{are_literals_true, marked_before, marked_after}
-use Rattle.league_core.proofs.OrderingLemmas.{int_cmp-less}
-
-pub trail_says : (x y : ℤ) (rest : Ordering) → is_lt (ordering_then (int_cmp y x) rest) ≡ false
-    → x ≤ℤ y
-trail_says x y rest not_before =
-    by_lt_z y x (λ above. absurd
-    (true≢false
-    (sym (ap (λ o. is_lt (ordering_then o rest)) (int_cmp-less y x above)) ∙ not_before)))
-    (λ at_most. at_most)
+use Rattle.league_core.proofs.plain.Orderings.{not_less-first}
 
 pub points_not_before : (sheet : Sheet) (finish : Results) (lots : List ℕ) (club other : ℕ)
     → ranks_before sheet finish lots club other ≡ false
     → points_of sheet finish club ≤ℤ points_of sheet finish other
 points_not_before sheet finish lots club other not_before =
-    trail_says (points_of sheet finish club) (points_of sheet finish other) _ not_before
+    not_less-first (points_of sheet finish club) (points_of sheet finish other) _ not_before
 
 -- the test of a rival is whether it ranks before the club
 pub rival_at : (sheet : Sheet) (club : ℕ) (finish : Results) (lots : List ℕ) (rival : ℕ)

@@ -1,11 +1,11 @@
 -- Members of a zone: their scores are options there, and their sums lie in the ranges.
-use Rattle.std.proofs.Common.{◌≡◌, ℕ, suc, ◌+◌, ℤ, pos, ◌-ℤ◌, ◌*ℤ◌, ◌≤ℤ◌, Bool, true}
-use Rattle.std.proofs.Common.{not, List, [], ◌∷◌, length, get_or, slice_index}
-use Rattle.std.proofs.Common.{Option, Some, None, refl, sym, ap, ◌∙◌, inl, inr, arith}
+use Rattle.std.proofs.Common.{◌≡◌, ℕ, suc, ◌+◌, ℤ, pos, ◌-ℤ◌, ◌*ℤ◌, ◌≤ℤ◌, Bool, true, not, List, []}
+use Rattle.std.proofs.Common.{◌∷◌, length, get_or, slice_index, Option, Some, None, refl, sym, ap}
+use Rattle.std.proofs.Common.{◌∙◌, inl, inr, arith}
 use Rattle.std.specs.List.{list_all}
 use Rattle.std.proofs.lemmas.Int.{ints}
-use Rattle.std.proofs.lemmas.Bool.{false≢true, and_parts, and_from, or_left, or_right}
-use Rattle.std.proofs.lemmas.Bool.{cases_Bool, eqb-true}
+use Rattle.std.proofs.lemmas.Bool.{false≢true, and_parts, and_from, or_left, or_right, cases_Bool}
+use Rattle.std.proofs.lemmas.Bool.{eqb-true}
 use Rattle.league_core.specs.declared.sheet.Sheet.{Sheet}
 use Rattle.league_core.specs.declared.sheet.Fixture.{Fixture}
 use Rattle.league_core.specs.declared.season.Score.{Score}
@@ -24,7 +24,8 @@ use Rattle.league_core.specs.search.PointRanges.{least_points_of, most_points_of
 use Rattle.league_core.proofs.OptionLemmas.{has_score-options_of}
 use Rattle.league_core.proofs.SumLemmas.{total_of-sum_over}
 use Rattle.league_core.proofs.PointRangeLemmas.{range_bounds}
-use Rattle.league_core.proofs.PlainLemmas.{times-suc}
+use Rattle.league_core.proofs.plain.Numbers.{times-suc}
+use Rattle.league_core.proofs.plain.Lists.{list_all-weaker}
 
 -- a test of a fixture is true exactly when the fixture's score passes
 test_at : (sheet : Sheet) (club : ℕ) (finish : Results) (lots : List ℕ) (test : Test) (fixture : ℕ)
@@ -57,14 +58,6 @@ meets_true sheet club finish lots fixture score literal at holds =
       | inr off ↦ or_left (not (is_on fixture literal.test))
           (is_as_said literal.yes (passes literal.test score)) (ap not off)
     ]
-
--- what all of a list pass, they pass if each that passes the one test passes the other
-pub list_all-weaker : {X : Type 0} (p q : X → Bool) (xs : List X)
-    → ((x : X) → p x ≡ true → q x ≡ true) → list_all p xs ≡ true → list_all q xs ≡ true
-list_all-weaker p q [] weaker all = refl
-list_all-weaker p q (x ∷ xs) weaker all =
-    let parts = and_parts (p x) (list_all p xs) all in
-    and_from (q x) (list_all q xs) (weaker x parts.0) (list_all-weaker p q xs weaker parts.1)
 
 member_takes_one : (sheet : Sheet) (club : ℕ) (finish : Results) (lots : List ℕ) (limit : ℕ)
     (zone : List Literal) (fixture : ℕ) (played ended : Option Score)

@@ -1,8 +1,8 @@
 -- Ranges that are compared: what two of them say of any two numbers in them, and what lists of them
 -- say of lists of numbers.
-use Rattle.std.proofs.Common.{◌≡◌, ℤ, ◌≤ℤ◌, Bool, true, false, ◌&&◌, ◌||◌}
-use Rattle.std.proofs.Common.{cond, List, [], ◌∷◌, length, Ordering, Less, Equal, Greater}
-use Rattle.std.proofs.Common.{is_eq, refl, sym, ap, subst, inl, inr, arith}
+use Rattle.std.proofs.Common.{◌≡◌, ℤ, ◌≤ℤ◌, Bool, true, false, ◌&&◌, ◌||◌, cond, List, [], ◌∷◌}
+use Rattle.std.proofs.Common.{length, Ordering, Less, Equal, Greater, is_eq, refl, sym, ap, subst}
+use Rattle.std.proofs.Common.{inl, inr, arith}
 use Rattle.std.specs.Prelude.{int_lt}
 use Rattle.std.specs.Ordering.{ordering_then}
 use Rattle.std.proofs.lemmas.Int.{ints}
@@ -14,9 +14,9 @@ use Rattle.league_core.specs.game.HeadToHead.{greater_first, by_first_difference
 use Rattle.league_core.specs.search.PointRanges.{Range}
 use Rattle.league_core.specs.search.SureOrder.{has_one_value, sure_by_range, sure_then}
 use Rattle.league_core.specs.search.SureOrder.{sure_by_ranges, is_apart}
-use Rattle.league_core.proofs.OrderingLemmas.{then-equal, greater_first-same, int_cmp-less}
-use Rattle.league_core.proofs.PlainLemmas.{int_lt-true, int_lt-false}
-use Rattle.league_core.proofs.OrderingLemmas.{int_cmp-greater}
+use Rattle.league_core.proofs.OrderingLemmas.{greater_first-same}
+use Rattle.league_core.proofs.plain.Orderings.{then-equal, int_cmp-less, int_cmp-greater}
+use Rattle.league_core.proofs.plain.Numbers.{int_lt-true, int_lt-false}
 
 -- how the rival surely stands against the club is how the two compare; if that is unknown nothing
 -- is said

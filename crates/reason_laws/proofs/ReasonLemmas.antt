@@ -1,8 +1,7 @@
 -- Reasons are sound: if one holds, the question holds at no member of the zone. Here are the counts
 -- of marked rivals, the window and both cuts.
-use Rattle.std.proofs.Common.{◌≡◌, ℕ, ◌-◌, ◌<◌, ◌≤◌, ℤ, ◌≤ℤ◌, Bool, true, false}
-use Rattle.std.proofs.Common.{not, ◌&&◌, nat_le, List, [], ◌∷◌, length}
-use Rattle.std.proofs.Common.{count_by, sym, ap, ◌∙◌, inl, inr, arith}
+use Rattle.std.proofs.Common.{◌≡◌, ℕ, ◌-◌, ◌<◌, ◌≤◌, ℤ, ◌≤ℤ◌, Bool, true, false, not, ◌&&◌, nat_le}
+use Rattle.std.proofs.Common.{List, [], ◌∷◌, length, count_by, sym, ap, ◌∙◌, inl, inr, arith}
 use Rattle.std.specs.Prelude.{int_lt, int_le}
 use Rattle.std.specs.List.{list_all}
 use Rattle.std.proofs.lemmas.Int.{ints, clamps}
@@ -23,17 +22,15 @@ use Rattle.league_core.specs.search.Zones.{rivals_of, marked_before, marked_afte
 use Rattle.league_core.specs.search.PointRanges.{least_points_of, most_points_of, own_most}
 use Rattle.league_core.specs.search.PointRanges.{own_least}
 use Rattle.league_core.specs.search.Reasons.{too_many, refutes_by_count, refutes_by_window}
-use Rattle.league_core.specs.search.Reasons.{has_member, times, refutes_by_low}
-use Rattle.league_core.specs.search.Reasons.{refutes_by_high}
+use Rattle.league_core.specs.search.Reasons.{has_member, times, refutes_by_low, refutes_by_high}
 use Rattle.league_core.proofs.ClubLemmas.{range_has}
 use Rattle.league_core.proofs.RankingLemmas.{ranks_before-itself}
 use Rattle.reason_laws.proofs.MemberLemmas.{member_in_box, points_in_box, total_at_most}
 use Rattle.reason_laws.proofs.MemberLemmas.{total_at_least}
-use Rattle.reason_laws.proofs.MarkedOrderLemmas.{points_not_before}
-use Rattle.reason_laws.proofs.MarkedOrderLemmas.{before_is, after_is}
+use Rattle.reason_laws.proofs.MarkedOrderLemmas.{points_not_before, before_is, after_is}
 use Rattle.reason_laws.proofs.RivalCountLemmas.{count_by-front, count_by-three, count_by-own}
-use Rattle.league_core.proofs.PlainLemmas.{int_lt-true}
 use Rattle.league_core.proofs.TableLemmas.{ranks_before-points}
+use Rattle.league_core.proofs.plain.Numbers.{int_lt-true}
 
 -- with too many rivals before the club its place is not inside the line, with too many behind it is
 pub too_many_says : (sheet : Sheet) (question : Question) (finish : Results) (lots : List ℕ)

@@ -1,24 +1,14 @@
 -- How many of some clubs pass a test, and how many of those that are not the question's own.
-use Rattle.std.proofs.Common.{◌≡◌, ℕ, suc, ◌+◌, ◌≤◌, Bool, true, false}
-use Rattle.std.proofs.Common.{not, ◌==◌, cond, List, [], ◌∷◌, length, filter}
-use Rattle.std.proofs.Common.{count_by, refl, ap, ◌∙◌, inl, inr, arith}
-use Rattle.std.specs.List.{list_all}
-use Rattle.std.proofs.lemmas.Bool.{false≢true, and_parts, or_cases, eqb-true}
-use Rattle.std.proofs.lemmas.List.Sums.{sum_by-cons}
-use Rattle.league_core.specs.game.Sums.{has_club}
-use Rattle.std.proofs.Common.{◌≡◌, ◌≢◌, ℕ, ◌+◌, ◌≤◌, Bool, true, false, not}
-use Rattle.std.proofs.Common.{◌==◌, cond, List, [], ◌∷◌, length, filter}
-use Rattle.std.proofs.Common.{count_by, refl}
-use Rattle.std.proofs.Common.{ap, ◌∙◌, arith}
-use Rattle.std.specs.List.{list_all}
-use Rattle.std.proofs.lemmas.Bool.{false≢true, and_parts}
+use Rattle.std.proofs.Common.{◌≡◌, ℕ, suc, ◌+◌, ◌≤◌, Bool, true, false, not, ◌==◌, cond, List, []}
+use Rattle.std.proofs.Common.{◌∷◌, length, filter, count_by, refl, ap, ◌∙◌, inl, inr, arith, ◌≡◌}
+use Rattle.std.proofs.Common.{◌≢◌, ℕ, ◌+◌, ◌≤◌, Bool, true, false, not, ◌==◌, cond, List, [], ◌∷◌}
+use Rattle.std.proofs.Common.{length, filter, count_by, refl, ap, ◌∙◌, arith}
+use Rattle.std.specs.List.{list_all, list_all}
+use Rattle.std.proofs.lemmas.Bool.{false≢true, and_parts, or_cases, eqb-true, false≢true, and_parts}
 use Rattle.std.proofs.lemmas.Bool.{eqb-true, eqb-false}
-use Rattle.league_core.proofs.PlainLemmas.{one_if-most}
-
--- the first of a list counts if it passes
-pub count_by-cons : (test : ℕ → Bool) (club : ℕ) (clubs : List ℕ)
-    → count_by test (club ∷ clubs) ≡ cond {A = ℕ} (test club) 1 0 + count_by test clubs
-count_by-cons test club clubs = sum_by-cons (λ (x : ℕ). cond (test x) 1 0) club clubs
+use Rattle.league_core.specs.game.Sums.{has_club}
+use Rattle.league_core.proofs.plain.TruthValues.{one_if-most}
+use Rattle.league_core.proofs.plain.Counts.{count_by-cons}
 
 -- all clubs of a list but one
 abbrev pub others_in : ℕ → List ℕ → List ℕ

@@ -33,10 +33,10 @@ use Rattle.league_core.specs.search.SureOrder.{are_all_sure_overall, surely_leve
 use Rattle.league_core.specs.search.SureOrder.{sure_by, sure_by_points, level_on_points, sure_order}
 use Rattle.league_core.specs.search.Splits.{are_outcomes_fixed}
 use Rattle.reason_laws.specs.inside.SureLaws.{sure_of}
-use Rattle.reason_laws.proofs.MemberLemmas.{list_all-weaker}
 use Rattle.reason_laws.proofs.FixedLemmas.{range_from-alike, scores_alike, one_score-outcome}
 use Rattle.reason_laws.proofs.RangeOrderLemmas.{Agrees}
 use Rattle.reason_laws.proofs.SureOrderLemmas.{points_fixed, range_clear, order_agrees}
+use Rattle.league_core.proofs.plain.Lists.{list_all-weaker, list_all-each}
 
 -- each of some ranges has one value
 abbrev HaveOneValue : List Range → Type 0
@@ -117,17 +117,11 @@ one_overall sheet options club one =
         (and_from b _ q
         (and_from c _ r (and_from d _ s (and_from e _ t (and_from f true u refl)))))
 
-all_pass : (test : ℕ → Bool) (clubs : List ℕ) → ((club : ℕ) → test club ≡ true)
-    → list_all test clubs ≡ true
-all_pass test [] passes = refl
-all_pass test (club ∷ clubs) passes =
-    and_from (test club) (list_all test clubs) (passes club) (all_pass test clubs passes)
-
 -- so of each club it is known whether it shares the club's record
 all_sure : (sheet : Sheet) (options : List (List Score)) (group : List ℕ) (club : ℕ)
     → list_all has_one_score options ≡ true → are_all_sure sheet options group club ≡ true
 all_sure sheet options group club one =
-    all_pass (λ other. is_surely_in sheet options group club other
+    list_all-each (λ other. is_surely_in sheet options group club other
     || is_surely_out sheet options group club other) group
     (λ other. level_or_apart (record_ranges sheet options group other)
     (record_ranges sheet options group club) (one_record sheet options group other one)
@@ -189,7 +183,7 @@ by_clear OverallFirst sheet options group rival club one =
     (one_first_sums sheet options rival one) (one_first_sums sheet options club one))
     (if_sure_clear (are_all_sure_overall sheet options group club)
     (sure_in sheet options level rival club)
-    (all_pass (λ other. is_surely_level_overall sheet options club other
+    (list_all-each (λ other. is_surely_level_overall sheet options club other
     || is_surely_apart_overall sheet options club other) group
     (λ other. level_or_apart (first_sum_ranges sheet options other)
     (first_sum_ranges sheet options club) (one_first_sums sheet options other one)

@@ -1,11 +1,10 @@
 -- What is sure of two clubs in a zone is so at each of its finishes: if two ranges decide, the sums
 -- compare that way, and if they leave two clubs level, the clubs are level.
-use Rattle.std.proofs.Common.{◌≡◌, ℕ, zero, suc, Bool, true, false, ◌||◌, ◌==◌}
-use Rattle.std.proofs.Common.{cond, List, [], ◌∷◌, length, filter, Ordering, Less, Equal, Greater}
-use Rattle.std.proofs.Common.{is_eq, refl, sym, ap, ◌∙◌, subst, arith}
-use Rattle.std.specs.List.{list_all}
+use Rattle.std.proofs.Common.{◌≡◌, ℕ, zero, suc, Bool, true, false, ◌||◌, ◌==◌, List, length}
+use Rattle.std.proofs.Common.{filter, Ordering, Less, Equal, Greater, is_eq, refl, sym, ap, ◌∙◌}
+use Rattle.std.proofs.Common.{subst, arith}
 use Rattle.std.proofs.lemmas.Int.{ints}
-use Rattle.std.proofs.lemmas.Bool.{false≢true, and_parts}
+use Rattle.std.proofs.lemmas.Bool.{false≢true}
 use Rattle.league_core.specs.declared.sheet.Sheet.{Sheet}
 use Rattle.league_core.specs.declared.season.Score.{Score}
 use Rattle.league_core.specs.declared.sure.Sure.{Sure}
@@ -25,6 +24,7 @@ use Rattle.league_core.proofs.StandingLemmas.{level_with-tied}
 use Rattle.reason_laws.proofs.MemberLemmas.{sum_in_range}
 use Rattle.reason_laws.proofs.RangeOrderLemmas.{Agrees, then_agrees, IsInRange, AreInRanges}
 use Rattle.reason_laws.proofs.RangeOrderLemmas.{ranges_agree, apart_differ}
+use Rattle.league_core.proofs.plain.Filters.{filter_where}
 
 -- a club's sum over all matches, or over those of a group, is in its range
 pub over_in_range : (worth : Worth) (sheet : Sheet) (options : List (List Score))
@@ -99,17 +99,6 @@ in_or_out Unknown true order is differs known = not_equal order (differs refl)
     not_equal Equal other = absurd (other refl)
     not_equal Greater other = refl
 in_or_out Unknown false order is differs known = absurd (false≢true known)
-
--- two tests that agree whenever a third one passes keep the same of a list that passes it
-pub filter_where : (test other known : ℕ → Bool) (clubs : List ℕ)
-    → ((club : ℕ) → known club ≡ true → test club ≡ other club) → list_all known clubs ≡ true
-    → filter test clubs ≡ filter other clubs
-filter_where test other known [] agree all = refl
-filter_where test other known (club ∷ clubs) agree all =
-    let parts = and_parts (known club) (list_all known clubs) all in
-    ap (λ b. cond b (club ∷ filter test clubs) (filter test clubs)) (agree club parts.0)
-    ∙ ap (λ rest. cond (other club) (club ∷ rest) rest)
-    (filter_where test other known clubs agree parts.1)
 
 -- if it is sure who shares the club's record, those are the clubs that share it
 surely_level : (sheet : Sheet) (options : List (List Score)) (finish : Results) (group : List ℕ)

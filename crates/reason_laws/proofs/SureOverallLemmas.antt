@@ -1,7 +1,7 @@
 -- What is sure within a group is how two clubs stand there at each finish, for either order of the
 -- criteria: the two sums over all matches may come before the head-to-head.
-use Rattle.std.proofs.Common.{◌≡◌, ℕ, Bool, true, false, ◌||◌, List, length, Ordering}
-use Rattle.std.proofs.Common.{refl, sym, ◌∙◌, subst}
+use Rattle.std.proofs.Common.{◌≡◌, ℕ, Bool, true, false, ◌||◌, List, length, Ordering, refl, sym}
+use Rattle.std.proofs.Common.{◌∙◌, subst}
 use Rattle.league_core.specs.declared.sheet.Sheet.{Sheet}
 use Rattle.league_core.specs.declared.sheet.Order.{Order}
 use Rattle.league_core.specs.declared.sheet.Order.TheVariants.{HeadFirst, OverallFirst}
@@ -19,9 +19,9 @@ use Rattle.league_core.specs.search.SureOrder.{are_all_sure_overall, surely_leve
 use Rattle.league_core.specs.search.SureOrder.{sure_by}
 use Rattle.league_core.proofs.StandingLemmas.{level_overall-tied}
 use Rattle.reason_laws.proofs.RangeOrderLemmas.{Agrees, AreInRanges, then_agrees, ranges_agree}
-use Rattle.reason_laws.proofs.SureLemmas.{over_in_range, in_or_out, filter_where}
 use Rattle.reason_laws.proofs.RangeOrderLemmas.{apart_differ}
-use Rattle.reason_laws.proofs.SureLemmas.{within_agrees}
+use Rattle.reason_laws.proofs.SureLemmas.{over_in_range, in_or_out, within_agrees}
+use Rattle.league_core.proofs.plain.Filters.{filter_where}
 
 -- a club's difference and goals over all matches are in their ranges
 first_sums_in_ranges : (sheet : Sheet) (options : List (List Score)) (finish : Results) (club : ℕ)

@@ -1,7 +1,7 @@
 -- The tie-break reason is sound, and so are all five: if one holds, the question holds at no member
 -- of the zone, whatever the lots.
-use Rattle.std.proofs.Common.{◌≡◌, ℕ, ◌<◌, Bool, true, false, ◌&&◌, ◌||◌, List, [], ◌∷◌, length}
-use Rattle.std.proofs.Common.{refl, sym, ◌∙◌, inl, inr}
+use Rattle.std.proofs.Common.{◌≡◌, ℕ, ◌<◌, true, false, ◌&&◌, ◌||◌, List, length, refl, sym, ◌∙◌}
+use Rattle.std.proofs.Common.{inl, inr}
 use Rattle.std.specs.List.{list_any}
 use Rattle.std.proofs.lemmas.Bool.{false≢true, true≢false, and_parts, or_cases}
 use Rattle.league_core.specs.declared.sheet.Sheet.{Sheet}
@@ -28,6 +28,7 @@ use Rattle.reason_laws.proofs.MarkedOrderLemmas.{before_is, after_is}
 use Rattle.reason_laws.proofs.ReasonLemmas.{too_many_says, holds_parts, count_says, window_says}
 use Rattle.reason_laws.proofs.ReasonLemmas.{floor_says, ceiling_says}
 use Rattle.reason_laws.proofs.SureOrderLemmas.{above_is, below_is_not}
+use Rattle.league_core.proofs.plain.Lists.{list_any-never}
 
 above_says : (sure : Sure) → is_above sure ≡ true → sure ≡ Above
 above_says Above is = refl
@@ -124,16 +125,6 @@ surely_wrong_says sheet season question zone finish lots fixed member rival wron
           ∙ surely_below_is sheet season question zone finish lots fixed member rival parts.1)
     ]
 
--- a test that no club passes is passed by none of a list
-none_passes : (test : ℕ → Bool) (clubs : List ℕ) → ((club : ℕ) → test club ≡ true → ⊥)
-    → list_any test clubs ≡ true → ⊥
-none_passes test [] fails any = false≢true any
-none_passes test (club ∷ clubs) fails any =
-    elim (or_cases (test club) (list_any test clubs) any) as (λ _. ⊥) [
-      | inl here ↦ fails club here
-      | inr later ↦ none_passes test clubs fails later
-    ]
-
 pub tie_says : (sheet : Sheet) (season : Results) (question : Question) (zone : List Literal)
     (finish : Results) (lots : List ℕ) → question.club < length sheet.clubs
     → IsMember sheet season question.club zone finish lots
@@ -149,7 +140,7 @@ tie_says sheet season question zone finish lots club_in member reason holds =
     parts.1) as (λ _. ⊥) [
       | inl many ↦ too_many_sure_says sheet season question zone finish lots club_in parts.0 member
           many holds
-      | inr wrong ↦ none_passes (is_surely_wrong sheet season question zone)
+      | inr wrong ↦ list_any-never (is_surely_wrong sheet season question zone)
           (rivals_of sheet question.club)
           (surely_wrong_says sheet season question zone finish lots parts.0 member) wrong
     ]

@@ -21,18 +21,9 @@ use Rattle.league_core.specs.search.Splits.{is_proper, IsProperNode}
 use Rattle.league_core.proofs.TreeLemmas.{length-preorder, new_count-le}
 use Rattle.league_core.proofs.HalfLemmas.{options_kept, root_has_finish, half_has_finish}
 use Rattle.reason_laws.specs.inside.Weights.{choices, finishes_in, unmarked_in, weight_of}
-use Rattle.reason_laws.proofs.ChoiceLemmas.{finishes_some, divided, kept_divided, finishes_divided}
-use Rattle.reason_laws.proofs.ChoiceLemmas.{root_finishes}
+use Rattle.reason_laws.proofs.ChoiceLemmas.{finishes_some, finishes_divided, root_finishes}
 use Rattle.reason_laws.proofs.MarkLemmas.{one_rival_marked, unmarked_kept, root_unmarked}
-
--- twice a power of two is the next one
-doubled : (m n k : ℕ) → m + 1 ≡ k → n + 1 ≡ k → 2 ^ m + 2 ^ n ≡ 2 ^ k
-doubled m n k first second =
-    let same : n ≡ m = omega arith in
-    let next : suc m ≡ k = omega arith in
-    let powers = pow-succ' 2 m in
-    ap (λ i. 2 ^ m + 2 ^ i) same ∙ (let twice : 2 ^ m + 2 ^ m ≡ 2 ^ suc m = omega arith in twice)
-    ∙ ap (λ i. 2 ^ i) next
+use Rattle.league_core.proofs.plain.Numbers.{divided, kept_divided, powers_sum}
 
 -- a split by a score divides the weight through the finishes
 score_divides : (sheet : Sheet) (season : Results) (question : Question) (zone : List Literal)
@@ -64,7 +55,7 @@ rival_divides sheet season question zone test rival of_rival proper =
     (2 ^ unmarked_in sheet question zone)
     (ap choices (options_kept sheet season zone test true rival of_rival))
     (ap choices (options_kept sheet season zone test false rival of_rival))
-    (doubled (unmarked_in sheet question (with_test zone test true))
+    (powers_sum (unmarked_in sheet question (with_test zone test true))
     (unmarked_in sheet question (with_test zone test false)) (unmarked_in sheet question zone)
     (one_rival_marked sheet season question zone test true rival of_rival proper)
     (one_rival_marked sheet season question zone test false rival of_rival proper))

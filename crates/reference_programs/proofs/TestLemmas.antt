@@ -1,7 +1,6 @@
 -- The tests of a tree are of the sheet's fixtures and clubs split by split if they are so node by
 -- node, and the other way round; and a zone of the sheet with one such test more is one again.
-use Rattle.std.proofs.Common.{List, [], ◌∷◌, ◌++◌}
-use Rattle.std.specs.List.{All}
+use Rattle.std.proofs.Common.{[], ◌++◌}
 use Rattle.std.proofs.lemmas.List.Elements.{All-nil, All-cons, All-head, All-tail, All-append}
 use Rattle.league_core.specs.declared.sheet.Sheet.{Sheet}
 use Rattle.league_core.specs.declared.tree.TreeNode.TheVariants.{Split, Open, Lent, Refuted}
@@ -10,17 +9,7 @@ use Rattle.league_core.specs.search.Trees.{preorder}
 use Rattle.tree_reuse.specs.inside.Calls.{IsNodeOf, AreTestsOf}
 use Rattle.score_box.proofs.PathLemmas.{zone_with}
 use Rattle.reference_programs.specs.inside.Boxed.{HasTestsOf}
-
--- what all of a list meets, its beginning meets
-all_first : {X : Type 0} (P : X → Type 0) (xs ys : List X) → All P (xs ++ ys) → All P xs
-all_first P [] ys all = All-nil P
-all_first P (x ∷ xs) ys all =
-    All-cons P x xs (All-head P x (xs ++ ys) all) (all_first P xs ys (All-tail P x (xs ++ ys) all))
-
--- and so does its end
-all_last : {X : Type 0} (P : X → Type 0) (xs ys : List X) → All P (xs ++ ys) → All P ys
-all_last P [] ys all = all
-all_last P (x ∷ xs) ys all = all_last P xs ys (All-tail P x (xs ++ ys) all)
+use Rattle.league_core.proofs.plain.Parts.{All-first, All-last}
 
 -- split by split, so node by node
 pub tests_of_nodes : (sheet : Sheet) (tree : Tree) → HasTestsOf sheet tree → AreTestsOf sheet tree
@@ -45,9 +34,9 @@ tests_of_splits sheet (branch test fresh yes_half no_half) are =
     (preorder yes_half ++ preorder no_half) are in (
       All-head (IsNodeOf sheet) (Split test fresh) (preorder yes_half ++ preorder no_half) are,
       tests_of_splits sheet yes_half
-          (all_first (IsNodeOf sheet) (preorder yes_half) (preorder no_half) behind),
+          (All-first (IsNodeOf sheet) (preorder yes_half) (preorder no_half) behind),
       tests_of_splits sheet no_half
-          (all_last (IsNodeOf sheet) (preorder yes_half) (preorder no_half) behind),
+          (All-last (IsNodeOf sheet) (preorder yes_half) (preorder no_half) behind),
     )
 
 pub ruleset longer = (zone_with)

@@ -35,8 +35,8 @@ pub trait ZoneTree: Sized {
     fn is_refuted(&self) -> bool
         ensures { result ≡ is_refuted (seen self.now) };
 
-    /// Lends an open leaf under a number that is not lent, and returns its zone; `None` if no leaf
-    /// is open.
+    /// Lends the first open leaf, depth first, the yes half first, under a number that is not lent,
+    /// and returns its zone; `None` if no leaf is open.
     fn lend(&mut self, number: u64) -> Result<Option<Zone>, OutOfMemory>
         requires free { times_lent number (seen self.old) ≡ 0 }
         requires few { node_count (seen self.old) + lent_count (seen self.old) ≤ most_nodes }

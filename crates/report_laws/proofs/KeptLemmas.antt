@@ -1,7 +1,7 @@
 -- Lines as a type holds them. The bits of a set past its width name no club: without them a line
 -- has the same text, and a tree or an item shows the same.
-use Rattle.std.proofs.Common.{◌≡◌, ℕ, ◌-◌, ◌^◌, ◌<◌, min, true, false, ◌&&◌}
-use Rattle.std.proofs.Common.{eqb, List, [], ◌∷◌, ◌++◌, map, refl, sym, ap, ap₂, ◌∙◌, arith}
+use Rattle.std.proofs.Common.{◌≡◌, ℕ, ◌-◌, ◌^◌, true, false, ◌&&◌, eqb, List, [], ◌∷◌, ◌++◌, map}
+use Rattle.std.proofs.Common.{refl, sym, ap, ap₂, ◌∙◌, arith}
 use Rattle.std.specs.Prelude.{codes}
 use Rattle.std.specs.List.{range_with_len}
 use Rattle.std.specs.Int.{bit_at}
@@ -9,7 +9,6 @@ use Rattle.std.specs.Int.Bits.{bit_and}
 use Rattle.std.proofs.lemmas.Bool.{ltb-true, lt-ltb}
 use Rattle.std.proofs.lemmas.List.{map-append}
 use Rattle.std.proofs.lemmas.Nat.{and_le_r}
-use Rattle.std.proofs.lemmas.Nat.Bits.{bit_at_and, bit_at_ones, bit_at-lt}
 use Rattle.league_core.specs.declared.sheet.Sheet.{Sheet}
 use Rattle.league_core.specs.declared.club_set.ClubSet.{ClubSet}
 use Rattle.league_core.specs.declared.question.Question.{Question}
@@ -32,21 +31,13 @@ use Rattle.cert_text.specs.Lines.{text_of_proof_line}
 use Rattle.cert_text.specs.TreeLines.{plain_line, marked_line, plain_lines, marked_lines}
 use Rattle.cert_text.specs.ExampleLines.{text_of_proof_lines}
 use Rattle.cert_text.specs.inside.Widths.{is_set_kept, is_reason_kept, is_line_kept}
+use Rattle.league_core.proofs.plain.Numbers.{bit-kept}
 
 -- ---- sets and reasons
 
 -- a set without the bits past its width
 abbrev pub kept_set : ClubSet → ClubSet
 kept_set set = record { bits = bit_and set.bits (2 ^ 32 - 1) }
-
-bit-kept : (bits club : ℕ) → club < 32
-    → bit_at (bit_and bits (2 ^ 32 - 1)) club ≡ bit_at bits club
-bit-kept bits club below =
-    bit_at_and bits (2 ^ 32 - 1) club ∙ ap (min (bit_at bits club)) (bit_at_ones 32 club below)
-    ∙ least (bit_at bits club) (bit_at-lt bits club)
-  where
-    least : (bit : ℕ) → bit < 2 → min bit 1 ≡ bit
-    least bit low = omega arith
 
 -- it has the same clubs
 clubs-kept : (set : ClubSet) → clubs_in (kept_set set) ≡ clubs_in set

@@ -1,11 +1,10 @@
 -- Proof lines that are brief are no longer than a line may be.
-use Rattle.std.proofs.Common.{◌≡◌, ℕ, ◌+◌, ◌*◌, ◌<◌, ◌≤◌, Bool, true, false, ◌==◌, nat_le, List, []}
-use Rattle.std.proofs.Common.{◌∷◌, map, length, refl, arith}
+use Rattle.std.proofs.Common.{◌≡◌, ℕ, ◌+◌, ◌*◌, ◌≤◌, Bool, true, false, ◌==◌, nat_le, List, [], ◌∷◌}
+use Rattle.std.proofs.Common.{map, length, refl, arith}
 use Rattle.std.specs.Prelude.{decimal}
 use Rattle.std.specs.List.{list_all, join_with_byte, range_with_len}
 use Rattle.std.specs.Int.{bit_at}
 use Rattle.std.proofs.lemmas.Bool.{and_parts, and_from, false≢true, le-leb, leb-true, ltb-true}
-use Rattle.std.proofs.lemmas.Fmt.{length-decimal-le}
 use Rattle.std.proofs.lemmas.List.{length-append}
 use Rattle.std.proofs.lemmas.List.FromFn.{length-range_with_len}
 use Rattle.std.proofs.lemmas.List.Sums.{length-filter, count_by-le-length}
@@ -25,6 +24,7 @@ use Rattle.cert_text.specs.Lines.{text_of_proof_line}
 use Rattle.cert_text.specs.Ranges.{is_club_number, is_in_range}
 use Rattle.cert_text.proofs.PrintedLemmas.{is_small_part, small_line}
 use Rattle.report_laws.proofs.BriefLemmas.{is_brief, may_show}
+use Rattle.league_core.proofs.plain.Texts.{decimal-size}
 
 -- ---- arrays
 
@@ -47,17 +47,17 @@ array-size : (items : List (List ℕ)) → length (array_text items) ≤ 2 + siz
 array-size items =
     omega (arith, join-size items, length-append (91 ∷ join_with_byte 44 items) (93 ∷ []))
 
-number-size : (n : ℕ) → n < 10000 → length (decimal n) ≤ 4
-number-size n small =
-    length-decimal-le 4 n (omega arith) (omega (arith, small)) (omega (arith, small))
-
 clubs-size : (list : List ℕ) → list_all is_club_number list ≡ true
     → sizes (map (λ club. decimal (number_in_text club)) list) ≤ 5 * length list
 clubs-size [] all = omega arith
 clubs-size (club ∷ list) all =
     let parts = and_parts (is_club_number club) (list_all is_club_number list) all in
     let below = ltb-true club 24 parts.0 in
-    omega (arith, number-size (number_in_text club) (omega (arith, below)), clubs-size list parts.1)
+    omega (
+      arith,
+      decimal-size (number_in_text club) (omega (arith, below)),
+      clubs-size list parts.1,
+    )
 
 -- ---- proof lines
 
@@ -73,7 +73,7 @@ part-size : (part : Part) → is_small_part part ≡ true → is_slim_part part 
 part-size (word name) small slim =
     let few = leb-true (length name) 20 slim in
     omega (arith, few, length-append (34 ∷ name) (34 ∷ []))
-part-size (whole n) small slim = omega (arith, number-size n (ltb-true n 10000 small))
+part-size (whole n) small slim = omega (arith, decimal-size n (ltb-true n 10000 small))
 part-size (points n) small slim = absurd (false≢true slim)
 part-size (clubs list) small slim =
     let few = leb-true (length list) 32 slim in

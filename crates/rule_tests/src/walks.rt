@@ -82,7 +82,7 @@ fn zones_to_example<W: Solver>(solver: &mut W, question: &Question) -> Result<u3
     requires of_zone { IsZoneFor (W.sheet solver.old) question.now [] }
     requires has_finish { IsTrue (has_finish (W.sheet solver.old) (W.season solver.old) []) }
 {
-    for number in 1..=60 {
+    for number in 1..=110 {
         if let Finding::Won(_, _) = solver.solve(question, &[])? {
             return Ok(number);
         }
@@ -115,9 +115,9 @@ fn zones_of(alloc: Global, sample: &Sample, question: &Question) -> Result<u32, 
 }
 
 #[test]
-fn a_solver_walks_at_the_fiftieth_zone_of_a_question(rt: HostRuntime) -> Result<(), Fail> {
+fn a_solver_walks_at_the_hundredth_zone_of_a_question(rt: HostRuntime) -> Result<(), Fail> {
     let sample = sample_of(rt.alloc(), LEVEL).ok_or("no league")?;
     let zones = zones_of(rt.alloc(), &sample, &about(2, -99, 1800))?;
-    assert_eq!(rt; zones, 50);
+    assert_eq!(rt; zones, 100);
     Ok(())
 }

@@ -1,23 +1,18 @@
 -- What fixtures come to for a club alone: by its sides, within bounds, and when the options of one
 -- fixture change.
-use Rattle.std.proofs.Common.{◌≡◌, ◌≢◌, ◌⊎◌, ℕ, zero, suc, ◌+◌}
-use Rattle.std.proofs.Common.{◌*◌, ◌<◌, ◌≤◌, ℤ, pos, ◌+ℤ◌, ◌-ℤ◌, ◌≤ℤ◌}
-use Rattle.std.proofs.Common.{Bool, true, false, not, eqb, cond, List}
-use Rattle.std.proofs.Common.{[], ◌∷◌, length, get_or, set, take, count_by}
-use Rattle.std.proofs.Common.{◌&&◌, ◌==◌, filter}
-use Rattle.std.specs.List.{list_all}
-use Rattle.std.proofs.lemmas.List.Sums.{length-filter}
+use Rattle.std.proofs.Common.{◌≡◌, ◌≢◌, ◌⊎◌, ℕ, zero, suc, ◌+◌, ◌*◌, ◌<◌, ◌≤◌, ℤ, pos, ◌+ℤ◌, ◌-ℤ◌}
+use Rattle.std.proofs.Common.{◌≤ℤ◌, Bool, true, false, not, eqb, cond, List, [], ◌∷◌, length}
+use Rattle.std.proofs.Common.{get_or, set, take, count_by, refl, sym, ap, ◌∙◌, inl, inr, arith}
 use Rattle.std.specs.List.{All}
-use Rattle.std.proofs.lemmas.Bool.{eq-eqb, ne_eqb}
+use Rattle.std.proofs.lemmas.Bool.{eq-eqb, ne_eqb, false≢true, cases_lt, cases_eq, eqb-true}
+use Rattle.std.proofs.lemmas.Bool.{false_from_ne_true}
 use Rattle.league_core.specs.declared.sheet.Sheet.{Sheet}
 use Rattle.league_core.specs.game.Sheets.{IsWithinLimits}
-use Rattle.std.proofs.Common.{refl, sym, ap, ◌∙◌, inl, inr, arith}
 use Rattle.std.proofs.lemmas.Int.{ints, clamps}
-use Rattle.std.proofs.lemmas.Bool.{false≢true, cases_lt, cases_eq, eqb-true, false_from_ne_true}
 use Rattle.std.proofs.lemmas.List.{ext_get_or, get_or-set_same, get_or-set_other, get_or_past}
 use Rattle.std.proofs.lemmas.List.{length-set}
-use Rattle.std.proofs.lemmas.List.Sums.{sum_by-set, get_or-le-sum_by}
-use Rattle.std.proofs.lemmas.List.Sums.{count_by_more_no, count_by_more_yes}
+use Rattle.std.proofs.lemmas.List.Sums.{sum_by-set, get_or-le-sum_by, count_by_more_no}
+use Rattle.std.proofs.lemmas.List.Sums.{count_by_more_yes}
 use Rattle.league_core.specs.declared.sheet.Fixture.{Fixture}
 use Rattle.league_core.specs.declared.season.Score.{Score}
 use Rattle.league_core.specs.game.Sums.{match_points}
@@ -31,12 +26,11 @@ use Rattle.league_core.proofs.RangeLemmas.{range_of-none}
 use Rattle.league_core.proofs.FixtureLemmas.{fixture_of_sheet}
 use Rattle.score_box.specs.declared.cell.Cell.{Cell}
 use Rattle.score_box.specs.declared.points.outcomes.MatchPoints.{MatchPoints}
-use Rattle.score_box.specs.inside.Cells.{IsCellOf, IsEmptyCell}
+use Rattle.score_box.specs.inside.Cells.{IsCellOf, IsEmptyCell, HasOneOutcome}
 use Rattle.score_box.specs.inside.Points.{IsPointsOf}
 use Rattle.score_box.specs.inside.Boxes.{open_outcomes_in}
 use Rattle.score_box.specs.inside.Ends.{alone_in, alone_over, empty_in, end_at, IsMatch, AreRanges}
 use Rattle.score_box.specs.inside.Ends.{MovesRanges}
-use Rattle.score_box.specs.inside.Cells.{HasOneOutcome}
 use Rattle.score_box.proofs.OutcomeLemmas.{one_outcome_of, outcome_of_cell}
 
 -- ---- bounds
@@ -364,22 +358,3 @@ pub matches_of : (sheet : Sheet) → IsWithinLimits sheet → All IsMatch sheet.
 matches_of sheet limits i d within =
     let ends = fixture_of_sheet sheet i d limits within in
     record { home = ends.0; away = ends.1; apart = ends.2 }
-
--- all pass exactly when none fails
-none_fails : {X : Type 0} (test : X → Bool) (xs : List X)
-    → (length (filter (λ x. not (test x)) xs) == 0) ≡ list_all test xs
-none_fails test [] = refl
-none_fails test (x ∷ xs) = by_test (test x) (none_fails test xs)
-  where
-    by_test : (b : Bool)
-        → (length (filter (λ y. not (test y)) xs) == 0) ≡ list_all test xs
-        → (length (cond (not b) (x ∷ filter (λ y. not (test y)) xs)
-        (filter (λ y. not (test y)) xs)) == 0) ≡ (b && list_all test xs)
-    by_test true later = later
-    by_test false later = ne_eqb (length (x ∷ filter (λ y. not (test y)) xs)) 0
-        (λ e. omega arith)
-
-pub all_counted : {X : Type 0} (test : X → Bool) (xs : List X)
-    → (count_by (λ x. not (test x)) xs == 0) ≡ list_all test xs
-all_counted test xs =
-    ap (λ n. n == 0) (sym (length-filter (λ x. not (test x)) xs)) ∙ none_fails test xs

@@ -1,13 +1,11 @@
 -- What the outcomes that a cell has left say of it.
-use Rattle.std.proofs.Common.{◌≡◌, Bool, true, false, not, ◌||◌, is_some, refl, sym, ap, ◌∙◌}
-use Rattle.std.proofs.Common.{List, ◌&&◌, Option, Some, None, arith}
+use Rattle.std.proofs.Common.{◌≡◌, Bool, true, false, not, ◌||◌, is_some, refl, sym, ap, ◌∙◌, List}
+use Rattle.std.proofs.Common.{◌&&◌, Option, Some, None, arith}
 use Rattle.std.specs.List.{list_any}
-use Rattle.std.proofs.lemmas.Bool.{false≢true, false_from_ne_true}
-use Rattle.std.proofs.lemmas.Bool.{ltb-true, eqb-true}
+use Rattle.std.proofs.lemmas.Bool.{false≢true, false_from_ne_true, ltb-true, eqb-true}
 use Rattle.league_core.specs.declared.season.Score.{Score}
 use Rattle.league_core.specs.search.Options.{is_home_win, is_draw, is_away_win}
 use Rattle.league_core.specs.game.Finishes.{same_score}
-use Rattle.league_core.proofs.PlainLemmas.{same_tests}
 use Rattle.league_core.proofs.OptionLemmas.{same_score-true, same_score-itself}
 use Rattle.league_core.proofs.OutcomeLemmas.{outcome_cases}
 use Rattle.league_core.proofs.OptionTestLemmas.{any_shows, any_gives}
@@ -15,8 +13,8 @@ use Rattle.score_box.specs.declared.cell.Cell.{Cell}
 use Rattle.score_box.specs.declared.points.left.OutcomesLeft.{OutcomesLeft}
 use Rattle.score_box.specs.declared.points.outcomes.MatchPoints.{MatchPoints}
 use Rattle.score_box.specs.declared.cell.goals.ScoreRange.{ScoreRange}
-use Rattle.score_box.proofs.CellLemmas.{Says, ranges_of, keeps_home_win, keeps_draw}
-use Rattle.score_box.proofs.CellLemmas.{keeps_away_win, allows_from}
+use Rattle.score_box.proofs.CellLemmas.{Says, ranges_of, keeps_home_win, keeps_draw, keeps_away_win}
+use Rattle.score_box.proofs.CellLemmas.{allows_from}
 use Rattle.score_box.specs.inside.Cells.{allows, IsAllowed, at_most_one, HasOneOutcome, IsCellOf}
 use Rattle.score_box.specs.inside.Cells.{IsEmptyCell, keeps_outcome, is_within, HasPassing}
 use Rattle.score_box.specs.inside.Cells.{IsExactCell}
@@ -24,19 +22,7 @@ use Rattle.score_box.specs.inside.Points.{least_of_three, most_of_three, IsPoint
 use Rattle.score_box.specs.inside.Points.{AreOutcomesLeft, AreOutcomesAmong}
 use Rattle.score_box.proofs.OutcomeLemmas.{decided}
 use Rattle.score_box.proofs.PointLemmas.{has_outcome, some_outcome, points_of_outcomes}
-
-none_of_three : (a b c : Bool) → not (a || b || c) ≡ true
-    → (a ≡ false) × (b ≡ false) × (c ≡ false)
-none_of_three true b c none = absurd (false≢true none)
-none_of_three false true c none = absurd (false≢true none)
-none_of_three false false true none = absurd (false≢true none)
-none_of_three false false false none = (refl, refl, refl)
-
-three_are_none : (a b c : Bool) → a ≡ false → b ≡ false → c ≡ false → not (a || b || c) ≡ true
-three_are_none true b c first second third = absurd (false≢true (sym first))
-three_are_none false true c first second third = absurd (false≢true (sym second))
-three_are_none false false true first second third = absurd (false≢true (sym third))
-three_are_none false false false first second third = refl
+use Rattle.league_core.proofs.plain.TruthValues.{same_tests, none_of_three, three_are_none}
 
 -- a score of the cell that passes shows that the cell has one
 passes_left : (cell : Cell) (test : Score → Bool) (has : Bool) (score : Score)

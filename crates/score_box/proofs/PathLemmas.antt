@@ -1,19 +1,16 @@
 -- A box along a path: one literal more or less, and the fixtures that are not played.
-use Rattle.std.proofs.Common.{◌≡◌, ◌≢◌, ◌⊎◌, ℕ, ◌+◌, ◌<◌, true, false, not}
-use Rattle.std.proofs.Common.{◌&&◌, ◌||◌, ◌==◌, List, [], ◌∷◌}
-use Rattle.std.proofs.Common.{◌++◌, length, get_or, set, take, cond}
-use Rattle.std.proofs.Common.{Option, None, refl, sym, ap, ◌∙◌, subst, inl, inr, arith}
-use Rattle.std.proofs.lemmas.Bool.{and_parts, and_from, cases_eq, ne_eqb}
-use Rattle.std.proofs.lemmas.List.{length-set, get_or-set_same, get_or-set_other, map-id}
-use Rattle.std.proofs.lemmas.List.{take_more, ext_get_or, get_or_past}
+use Rattle.std.proofs.Common.{◌≡◌, ◌≢◌, ◌⊎◌, ℕ, ◌+◌, ◌<◌, true, false, not, ◌&&◌, ◌||◌, ◌==◌, List}
+use Rattle.std.proofs.Common.{[], ◌∷◌, ◌++◌, length, get_or, set, take, cond, Option, None, refl}
+use Rattle.std.proofs.Common.{sym, ap, ◌∙◌, inl, inr, arith, ◌≤◌, append_assoc}
+use Rattle.std.proofs.lemmas.Bool.{and_parts, and_from, cases_eq, ne_eqb, cases_lt}
+use Rattle.std.proofs.lemmas.List.{length-set, get_or-set_same, get_or-set_other, map-id, take_more}
+use Rattle.std.proofs.lemmas.List.{ext_get_or, get_or_past}
 use Rattle.std.proofs.lemmas.List.Elements.{filter_agree}
-use Rattle.std.proofs.lemmas.Bool.{cases_lt}
-use Rattle.std.proofs.Common.{◌≤◌, append_assoc}
-use Rattle.league_core.specs.search.Options.{meets, endings, options_in}
+use Rattle.league_core.specs.search.Options.{meets, endings, options_in, meets_literal, options_of}
+use Rattle.league_core.specs.search.Options.{options_from, has_score}
 use Rattle.score_box.specs.inside.ZoneBoxViews.{ZoneBoxView}
 use Rattle.std.proofs.lemmas.List.Folds.{list_all-append}
 use Rattle.std.proofs.lemmas.List.FromFn.{filter_of_map_range_with_len_more}
-use Rattle.std.proofs.Math.Seq.{take-append_seam}
 use Rattle.std.proofs.Math.Bool.{and-true}
 use Rattle.league_core.specs.declared.sheet.Sheet.{Sheet}
 use Rattle.league_core.specs.declared.season.Score.{Score}
@@ -23,7 +20,6 @@ use Rattle.league_core.specs.game.Results.{Results}
 use Rattle.league_core.specs.game.Sums.{has_club}
 use Rattle.league_core.specs.game.ClubSets.{clubs_in}
 use Rattle.league_core.specs.search.Zones.{is_on, is_of_rival, is_test_of, is_zone_of}
-use Rattle.league_core.specs.search.Options.{meets_literal, options_of, options_from, has_score}
 use Rattle.league_core.proofs.OptionLemmas.{length-options_from}
 use Rattle.league_core.proofs.LiteralLemmas.{options_at, options_at-with, meets-other}
 use Rattle.score_box.specs.declared.cell.Cell.{Cell}
@@ -37,8 +33,7 @@ use Rattle.score_box.specs.inside.PlayedViews.{IsBoxOf, IsUndoOf}
 use Rattle.score_box.proofs.TrailLemmas.{trail_more, trail_less}
 use Rattle.score_box.specs.declared.totals.Totals.{Totals}
 use Rattle.score_box.proofs.EndLemmas.{set_is}
-use Rattle.score_box.proofs.BoxLemmas.{exact_set}
-use Rattle.score_box.proofs.BoxLemmas.{marked_before-push, marked_after-push}
+use Rattle.score_box.proofs.BoxLemmas.{exact_set, marked_before-push, marked_after-push}
 
 -- none is below 0, and the next fixture follows those before it if it is not played
 pub unplayed_below-zero : (scores : List (Option Score)) → unplayed_below 0 scores ≡ []
@@ -204,10 +199,6 @@ gives_cell limit zone last scores cells fixture cell on in_range is is_exact are
         ∙ are.each k d below score
         ∙ options_without limit zone last scores k score inside
         (on k ∙ ne_eqb fixture k (λ e. other (sym e)))
-
--- cells that were written through a slice of them all
-pub written : {X : Type 0} (n : ℕ) (xs ys : List X) → length xs ≡ n → take n (xs ++ ys) ≡ xs
-written n xs ys many = subst (λ m. take m (xs ++ ys) ≡ xs) many (take-append_seam xs ys)
 
 -- a literal that is not on a fixture leaves its options as they are
 pub options_but : (limit : ℕ) (zone : List Literal) (literal : Literal)

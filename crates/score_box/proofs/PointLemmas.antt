@@ -1,11 +1,8 @@
 -- The points of a fixture by the outcomes that its cell has left.
-use Rattle.std.proofs.Common.{◌≡◌, ◌⊎◌, ℕ, ◌≤◌, min, max, pos, ◌≤ℤ◌}
-use Rattle.std.proofs.Common.{Bool, true, false, ◌||◌, cond, List}
-use Rattle.std.proofs.Common.{Option, Some, None, is_some, refl, sym, ap, ◌∙◌}
-use Rattle.std.proofs.Common.{inl, inr, arith}
+use Rattle.std.proofs.Common.{◌≡◌, ◌⊎◌, ℕ, ◌≤◌, pos, ◌≤ℤ◌, Bool, true, false, ◌||◌, cond, List}
+use Rattle.std.proofs.Common.{Option, Some, None, is_some, refl, sym, ap, ◌∙◌, inl, inr, arith}
 use Rattle.std.proofs.lemmas.Int.{ints}
-use Rattle.std.proofs.lemmas.Bool.{false≢true, cases_lt}
-use Rattle.std.proofs.lemmas.Bool.{false_from_ne_true}
+use Rattle.std.proofs.lemmas.Bool.{false≢true, false_from_ne_true}
 use Rattle.league_core.specs.declared.season.Score.{Score}
 use Rattle.league_core.specs.search.Options.{is_home_win, is_draw, is_away_win}
 use Rattle.league_core.specs.search.PointRanges.{points_of_sides, won_points, drawn_points}
@@ -20,6 +17,7 @@ use Rattle.score_box.specs.inside.Cells.{allows, IsCellOf, IsEmptyCell, IsAllowe
 use Rattle.score_box.specs.declared.points.outcomes.MatchPoints.{MatchPoints}
 use Rattle.score_box.specs.inside.Points.{least_of_three, most_of_three, IsPointsOf}
 use Rattle.score_box.proofs.CellLemmas.{Says}
+use Rattle.league_core.proofs.plain.Numbers.{max_is_one, min_is_one}
 
 -- each outcome that may come gives at least the least, and at most the most
 least_below : (wins draws losses home away : Bool)
@@ -78,32 +76,6 @@ given_at_none false false true home away some none =
     inr (inr (refl, omega arith))
 given_at_none false false false home away some none = absurd (false≢true some)
 
-one_of_min : (x y z : ℕ) → (min (min x y) z ≡ x) ⊎ ((min (min x y) z ≡ y) ⊎ (min (min x y) z ≡ z))
-one_of_min x y z =
-    elim (cases_lt z (min x y)) as (λ _. (min (min x y) z ≡ x)
-    ⊎ ((min (min x y) z ≡ y) ⊎ (min (min x y) z ≡ z))) [
-      | inl under ↦ inr (inr (omega arith))
-      | inr over ↦
-          elim (cases_lt y x) as (λ _. (min (min x y) z ≡ x)
-          ⊎ ((min (min x y) z ≡ y) ⊎ (min (min x y) z ≡ z))) [
-            | inl below ↦ inr (inl (omega arith))
-            | inr above ↦ inl (omega arith)
-          ]
-    ]
-
-one_of_max : (x y z : ℕ) → (max (max x y) z ≡ x) ⊎ ((max (max x y) z ≡ y) ⊎ (max (max x y) z ≡ z))
-one_of_max x y z =
-    elim (cases_lt (max x y) z) as (λ _. (max (max x y) z ≡ x)
-    ⊎ ((max (max x y) z ≡ y) ⊎ (max (max x y) z ≡ z))) [
-      | inl over ↦ inr (inr (omega arith))
-      | inr under ↦
-          elim (cases_lt x y) as (λ _. (max (max x y) z ≡ x)
-          ⊎ ((max (max x y) z ≡ y) ⊎ (max (max x y) z ≡ z))) [
-            | inl above ↦ inr (inl (omega arith))
-            | inr below ↦ inl (omega arith)
-          ]
-    ]
-
 -- a choice that is taken, or the number that stands for no choice
 taken : (b : Bool) (points other number : ℕ) → number ≡ cond b points other
     → ((b ≡ true) × (number ≡ points)) ⊎ (number ≡ other)
@@ -118,7 +90,7 @@ least_given wins draws losses home away some =
     away) in
     let low = least_of_three wins draws losses home away in
     let at_three = given_at_three wins draws losses home away some in
-    elim (one_of_min (cond wins (won_points home) 3) (cond draws (drawn_points home away) 3)
+    elim (min_is_one (cond wins (won_points home) 3) (cond draws (drawn_points home away) 3)
     (cond losses (lost_points away) 3)) as (λ _. Goal) [
       | inl first ↦ elim (taken wins (won_points home) 3 low first) as (λ _. Goal)
           [ inl here ↦ inl here | inr three ↦ at_three three ]
@@ -137,7 +109,7 @@ most_given wins draws losses home away some =
     away) in
     let high = most_of_three wins draws losses home away in
     let at_none = given_at_none wins draws losses home away some in
-    elim (one_of_max (cond wins (won_points home) 0) (cond draws (drawn_points home away) 0)
+    elim (max_is_one (cond wins (won_points home) 0) (cond draws (drawn_points home away) 0)
     (cond losses (lost_points away) 0)) as (λ _. Goal) [
       | inl first ↦ elim (taken wins (won_points home) 0 high first) as (λ _. Goal)
           [ inl here ↦ inl here | inr none ↦ at_none none ]

@@ -1,8 +1,8 @@
 -- The match points of a set of clubs: what its clubs have in the table of what was played, and what
 -- the fixtures that are not played leave them.
 use Rattle.std.proofs.Common.{◌≡◌, ◌≢◌, ◌⊎◌, ℕ, suc, ◌+◌, ◌*◌, ◌<◌, ◌≤◌, ℤ, pos, ◌+ℤ◌, ◌-ℤ◌, ◌≤ℤ◌}
-use Rattle.std.proofs.Common.{Bool, true, List, [], ◌∷◌, length, get_or, take, Option}
-use Rattle.std.proofs.Common.{None, Some, slice_index, refl, sym, ap, ◌∙◌, inl, inr, arith}
+use Rattle.std.proofs.Common.{Bool, true, List, [], ◌∷◌, length, get_or, take, Option, None, Some}
+use Rattle.std.proofs.Common.{slice_index, refl, sym, ap, ◌∙◌, inl, inr, arith}
 use Rattle.std.specs.List.{All}
 use Rattle.std.proofs.lemmas.Int.{ints}
 use Rattle.std.proofs.lemmas.Bool.{cases_lt, ne_eqb, eqb-true}
@@ -22,8 +22,7 @@ use Rattle.league_core.specs.search.PointRanges.{points_together, points_of_side
 use Rattle.league_core.specs.search.PointRanges.{most_points_of}
 use Rattle.league_core.proofs.OptionLemmas.{length-options_from}
 use Rattle.league_core.proofs.OutcomeLemmas.{outcome_cases}
-use Rattle.league_core.proofs.PointRangeLemmas.{range_of-same, points_together-sides}
-use Rattle.league_core.proofs.PointRangeLemmas.{total_of-same}
+use Rattle.league_core.proofs.PointRangeLemmas.{range_of-same, points_together-sides, total_of-same}
 use Rattle.league_core.proofs.SumLemmas.{total_of-sum_over}
 use Rattle.league_core.proofs.WorthLemmas.{points_at_win, points_at_draw, points_at_loss}
 use Rattle.league_core.proofs.WorthLemmas.{won_points-most, drawn_points-most}
@@ -36,10 +35,11 @@ use Rattle.score_box.specs.inside.Ends.{IsMatch, AreRanges, end_at, empty_in}
 use Rattle.score_box.specs.inside.Points.{IsPointsOf, IsRangeOver, left_to}
 use Rattle.score_box.specs.inside.Totals.{AreTables, totals_at, no_totals, points_column}
 use Rattle.score_box.specs.inside.Unplayed.{unplayed_in}
-use Rattle.score_box.proofs.EndLemmas.{IsSmall, matches_of, range_small, all_counted}
+use Rattle.score_box.proofs.EndLemmas.{IsSmall, matches_of, range_small}
 use Rattle.score_box.proofs.SplitLemmas.{IsEnd, least_end, greatest_end, end_at_fixture}
-use Rattle.score_box.proofs.SplitLemmas.{KeepsPlayed}
-use Rattle.score_box.proofs.SplitLemmas.{keeps_played, range_split, total_take, no_match}
+use Rattle.score_box.proofs.SplitLemmas.{KeepsPlayed, keeps_played, range_split, total_take}
+use Rattle.score_box.proofs.SplitLemmas.{no_match}
+use Rattle.league_core.proofs.plain.Counts.{all_counted}
 
 -- ---- one fixture after another
 

@@ -1,14 +1,12 @@
 -- Sums over all fixtures, split into those that are played and those that are not; and what a set
 -- of clubs comes to, from what each of its clubs comes to alone.
-use Rattle.std.proofs.Common.{◌≡◌, ◌≢◌, ℕ, zero, suc, ◌+◌, ◌<◌, ℤ, pos, ◌+ℤ◌, ◌-ℤ◌, Bool}
-use Rattle.std.proofs.Common.{true, false, ◌&&◌, eqb, cond, List, [], ◌∷◌, filter, length}
-use Rattle.std.proofs.Common.{get_or, Option, None, Some, refl, sym, ap, ◌∙◌, subst, inl, inr}
-use Rattle.std.proofs.Common.{arith, add-one}
+use Rattle.std.proofs.Common.{◌≡◌, ◌≢◌, ℕ, zero, suc, ◌+◌, ◌<◌, ℤ, pos, ◌+ℤ◌, ◌-ℤ◌, Bool, true}
+use Rattle.std.proofs.Common.{false, ◌&&◌, eqb, cond, List, [], ◌∷◌, filter, length, get_or, Option}
+use Rattle.std.proofs.Common.{None, Some, refl, sym, ap, ◌∙◌, subst, inl, inr, arith, add-one, ◌++◌}
+use Rattle.std.proofs.Common.{◌≤◌, take}
 use Rattle.std.specs.List.{range_with_len}
 use Rattle.std.proofs.lemmas.Int.{ints}
-use Rattle.std.proofs.lemmas.Bool.{false≢true, true≢false, cases_lt}
-use Rattle.std.proofs.lemmas.Bool.{eqb-true, cases_Bool}
-use Rattle.std.proofs.Common.{◌++◌, ◌≤◌, take}
+use Rattle.std.proofs.lemmas.Bool.{false≢true, true≢false, cases_lt, eqb-true, cases_Bool}
 use Rattle.std.proofs.lemmas.List.{get_or_past, get_or_append_left, get_or_push, length_push}
 use Rattle.std.proofs.lemmas.List.{append-nil, take_more}
 use Rattle.league_core.specs.declared.sheet.Sheet.{Sheet}
@@ -23,7 +21,6 @@ use Rattle.league_core.specs.search.PointRanges.{Range, one_value, added, range_
 use Rattle.league_core.specs.search.PointRanges.{total_of, points_together, points_of_sides}
 use Rattle.league_core.proofs.ClubSetLemmas.{has_club-clubs_below}
 use Rattle.league_core.proofs.OptionLemmas.{length-options_from}
-use Rattle.league_core.proofs.PlainLemmas.{list_all-at}
 use Rattle.league_core.proofs.PointRangeLemmas.{range_of-same, total_of-same, total_of-sum}
 use Rattle.league_core.proofs.PointRangeLemmas.{points_together-sides, total_of-one}
 use Rattle.league_core.proofs.PointRangeLemmas.{total_of-append}
@@ -33,6 +30,7 @@ use Rattle.league_core.proofs.LiteralLemmas.{options_at}
 use Rattle.score_box.specs.inside.Unplayed.{is_unplayed, unplayed_below, unplayed_in}
 use Rattle.score_box.specs.inside.Ends.{alone_in, alone_over}
 use Rattle.score_box.proofs.EndLemmas.{alone_sides}
+use Rattle.league_core.proofs.plain.Lists.{list_all-at}
 
 -- a range of numbers that begins one later
 range_shift : (value : ℕ → ℤ) (first count : ℕ)

@@ -1,8 +1,8 @@
 -- Rows of totals: what a match adds to them, and what they are in the end.
 use Rattle.std.proofs.Common.{◌≡◌, ◌≢◌, ◌⊎◌, inl, inr, ℕ, ◌+◌, ◌*◌, ◌<◌, ◌≤◌, ℤ, pos, neg_ℤ, ◌+ℤ◌}
-use Rattle.std.proofs.Common.{◌≤ℤ◌, Bool, true, false, ◌&&◌, ◌||◌, nat_lt, eqb, cond, List}
-use Rattle.std.proofs.Common.{[], ◌∷◌, length, get_or, set, drop, Option}
-use Rattle.std.proofs.Common.{refl, sym, ap, ◌∙◌, subst, arith}
+use Rattle.std.proofs.Common.{◌≤ℤ◌, Bool, true, false, ◌&&◌, ◌||◌, nat_lt, eqb, cond, List, [], ◌∷◌}
+use Rattle.std.proofs.Common.{length, get_or, set, drop, Option, refl, sym, ap, ◌∙◌, subst, arith}
+use Rattle.std.proofs.Common.{◌==◌}
 use Rattle.std.proofs.lemmas.Int.{ints}
 use Rattle.std.proofs.lemmas.Bool.{cases_eq, eq-eqb, ne_eqb}
 use Rattle.std.proofs.lemmas.List.{get_or-set_same, get_or-set_other, length-set, drop_more}
@@ -10,12 +10,11 @@ use Rattle.std.proofs.lemmas.List.{drop_all}
 use Rattle.league_core.specs.declared.sheet.Fixture.{Fixture}
 use Rattle.league_core.specs.declared.season.Score.{Score}
 use Rattle.league_core.specs.game.Sums.{Worth, has_club, worth_among, if_played, sum_over}
-use Rattle.std.proofs.Common.{◌==◌}
+use Rattle.league_core.specs.game.Sums.{sum_among}
 use Rattle.league_core.specs.declared.sheet.Sheet.{Sheet}
 use Rattle.league_core.specs.game.Sheets.{IsWithinLimits, is_fixture}
 use Rattle.league_core.specs.game.Results.{Results}
 use Rattle.league_core.specs.game.ClubSets.{clubs_below}
-use Rattle.league_core.specs.game.Sums.{sum_among}
 use Rattle.league_core.specs.inside.PairSums.{sum_against}
 use Rattle.league_core.specs.search.PointRanges.{total_of}
 use Rattle.league_core.proofs.ClubSetLemmas.{has_club-clubs_below}
@@ -23,13 +22,13 @@ use Rattle.league_core.proofs.PointRangeLemmas.{total_of-same, total_of-one}
 use Rattle.league_core.proofs.SumLemmas.{sum_over-agree, total_of-sum_over}
 use Rattle.league_core.proofs.FixtureLemmas.{clubs_apart}
 use Rattle.league_core.proofs.PairLemmas.{match_of_pairs}
-use Rattle.league_core.proofs.PlainLemmas.{eqb-swap}
 use Rattle.score_box.specs.declared.totals.Totals.{Totals}
 use Rattle.score_box.specs.inside.Totals.{Column, points_column, difference_column, goals_column}
 use Rattle.score_box.specs.inside.Totals.{away_goals_column, wins_column, away_wins_column}
 use Rattle.score_box.specs.inside.Totals.{worth_in, total_in, AreTotals, AreTotalsNear, no_totals}
 use Rattle.score_box.specs.inside.Totals.{AreTogether, AddsPairs, AreTables, totals_at, pair_place}
 use Rattle.score_box.specs.inside.Totals.{TotalsGrowBy, worth_at_places, AddsScore}
+use Rattle.league_core.proofs.plain.Numbers.{eqb-swap}
 
 -- what holds of each column holds of all
 pub each_column : (P : Column → Type 0) → P points_column → P difference_column → P goals_column

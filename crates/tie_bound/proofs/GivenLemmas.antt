@@ -1,30 +1,15 @@
 -- Sets of marked rivals: whether all clubs of a set are marked.
-use Rattle.std.proofs.Common.{◌≡◌, ℕ, Bool, true, false, not, ◌&&◌, ◌||◌, List, [], ◌∷◌}
-use Rattle.std.proofs.Common.{refl, sym, ap, ◌∙◌}
-use Rattle.std.specs.List.{list_all, list_any}
+use Rattle.std.proofs.Common.{◌≡◌, ℕ, Bool, true, false, not, ◌&&◌, ◌||◌, List, [], ◌∷◌, refl, sym}
+use Rattle.std.proofs.Common.{ap, ◌∙◌}
+use Rattle.std.specs.List.{list_all}
 use Rattle.league_core.specs.declared.club_set.ClubSet.{ClubSet}
 use Rattle.league_core.specs.game.Sums.{has_club}
 use Rattle.league_core.specs.game.ClubSets.{clubs_in}
 use Rattle.league_core.specs.search.Reasons.{has_member}
 use Rattle.league_core.proofs.ClubSetLemmas.{clubs_below-filter}
-use Rattle.tie_bound.proofs.RivalLemmas.{any-is}
-
--- one that fails is one that does not pass
-some_fails : (test : ℕ → Bool) (clubs : List ℕ)
-    → list_any (λ club. not (test club)) clubs ≡ not (list_all test clubs)
-some_fails test [] = refl
-some_fails test (club ∷ clubs) = by_test (test club) (some_fails test clubs)
-  where
-    by_test : (b : Bool) → list_any (λ other. not (test other)) clubs ≡ not (list_all test clubs)
-        → (not b || list_any (λ other. not (test other)) clubs) ≡ not (b && list_all test clubs)
-    by_test true later = later
-    by_test false later = refl
-
-same_not : (a b : Bool) → not a ≡ not b → a ≡ b
-same_not true true same = refl
-same_not true false same = sym same
-same_not false true same = sym same
-same_not false false same = refl
+use Rattle.league_core.proofs.plain.Filters.{any-is}
+use Rattle.league_core.proofs.plain.TruthValues.{same_not}
+use Rattle.league_core.proofs.plain.Lists.{any_fails}
 
 -- no club of the one set is left without those of the other: all of them pass the other's test
 pub none_left : (empty : Bool) (test : ℕ → Bool) (clubs set left : ClubSet)
@@ -39,7 +24,7 @@ none_left empty test clubs set left is without gives from =
     (clubs_below-filter 32 left.bits clubs.bits (λ club. not (test club))
     (λ club. without club ∙ ap (λ b. has_club (clubs_in clubs) club && not b) (is club)))
     gives from
-    ∙ some_fails test (clubs_in clubs))
+    ∙ any_fails test (clubs_in clubs))
 
 -- what is said of a zone that has a finish, of clubs that are some of the marked ones
 pub said_of : (finish some over : Bool) → finish ≡ true → some ≡ true

@@ -1,12 +1,10 @@
 -- More clubs that are above or below refute no less.
-use Rattle.std.proofs.Common.{◌≡◌, ℕ, ◌-◌, ◌≤◌, Bool, true, false, not}
-use Rattle.std.proofs.Common.{◌&&◌, ◌||◌, cond, nat_le, nat_lt, ◌==◌, List, [], ◌∷◌, length}
-use Rattle.std.proofs.Common.{count_by, refl, sym, ap, ◌∙◌, arith}
+use Rattle.std.proofs.Common.{◌≡◌, ℕ, ◌-◌, ◌≤◌, Bool, true, false, not, ◌&&◌, ◌||◌, cond, nat_lt}
+use Rattle.std.proofs.Common.{◌==◌, List, [], ◌∷◌, length, count_by, refl, sym, ap, ◌∙◌, arith}
 use Rattle.std.specs.List.{list_any}
-use Rattle.std.proofs.lemmas.Bool.{false≢true, eq-eqb, or_right, and_parts, and_from}
+use Rattle.std.proofs.lemmas.Bool.{false≢true, eq-eqb, or_right, and_parts, and_from, lt-ltb}
+use Rattle.std.proofs.lemmas.Bool.{false_from_ne_true}
 use Rattle.std.proofs.lemmas.List.Sums.{sum_by-cons}
-use Rattle.league_core.proofs.ClubLemmas.{one_at_most}
-use Rattle.std.proofs.lemmas.Bool.{leb-true, le-leb, lt-ltb, false_from_ne_true}
 use Rattle.league_core.specs.declared.question.Claim.{Claim}
 use Rattle.league_core.specs.declared.question.Claim.TheVariants.{Inside, Outside}
 use Rattle.league_core.specs.declared.question.Question.{Question}
@@ -17,7 +15,6 @@ use Rattle.league_core.specs.search.Zones.{rivals_of, marked_before, marked_afte
 use Rattle.league_core.specs.search.Reasons.{too_many, is_surely_above, is_surely_below}
 use Rattle.league_core.specs.search.SureOrder.{sure_then, sure_by_points, sure_order, is_above}
 use Rattle.league_core.specs.search.SureOrder.{is_below}
-use Rattle.league_core.proofs.PlainLemmas.{same_tests}
 use Rattle.score_box.specs.inside.ZoneBoxViews.{ZoneBoxView}
 use Rattle.tie_bound.specs.declared.answer_sets.Answers.{Answers}
 use Rattle.tie_bound.specs.inside.Boxes.{options_in_box}
@@ -25,6 +22,8 @@ use Rattle.tie_bound.specs.inside.Answers.{answer_at, AreByPoints}
 use Rattle.tie_bound.specs.inside.Rivals.{are_too_many_with, is_wrong_with, refutes_with}
 use Rattle.tie_bound.specs.inside.Rivals.{refutes_surely}
 use Rattle.tie_bound.proofs.RivalLemmas.{rival_below}
+use Rattle.league_core.proofs.plain.TruthValues.{one_if-le, same_tests, and_more, or_both, or_more}
+use Rattle.league_core.proofs.plain.Numbers.{le_more}
 
 -- a test that passes wherever another does
 abbrev Passes : List ℕ → (ℕ → Bool) → (ℕ → Bool) → Type 0
@@ -45,16 +44,11 @@ count_more : (test more : ℕ → Bool) (clubs : List ℕ) → Passes clubs test
 count_more test more [] passes = omega arith
 count_more test more (club ∷ clubs) passes =
     let rest = count_more test more clubs (passes_later club clubs test more passes) in
-    let here = one_at_most (test club) (more club)
+    let here = one_if-le (test club) (more club)
     (passes_first club clubs test more passes) in
     let few = sum_by-cons (λ (x : ℕ). cond (test x) 1 0) club clubs in
     let many = sum_by-cons (λ (x : ℕ). cond (more x) 1 0) club clubs in
     omega arith
-
-or_both : (here later more rest : Bool) → (here ≡ true → more ≡ true)
-    → (later ≡ true → rest ≡ true) → (here || later) ≡ true → (more || rest) ≡ true
-or_both true later more rest first second some = ap (λ b. b || rest) (first refl)
-or_both false later more rest first second some = or_right more rest (second some)
 
 any_more : (test more : ℕ → Bool) (clubs : List ℕ) → Passes clubs test more
     → list_any test clubs ≡ true → list_any more clubs ≡ true
@@ -63,18 +57,6 @@ any_more test more (club ∷ clubs) passes some =
     or_both (test club) (list_any test clubs) (more club) (list_any more clubs)
     (passes_first club clubs test more passes)
     (any_more test more clubs (passes_later club clubs test more passes)) some
-
-or_more : (a b c : Bool) → (b ≡ true → c ≡ true) → (a || b) ≡ true → (a || c) ≡ true
-or_more true b c more some = refl
-or_more false b c more some = more some
-
-and_more : (a b c : Bool) → (b ≡ true → c ≡ true) → (a && b) ≡ true → (a && c) ≡ true
-and_more true b c more both = more both
-and_more false b c more both = both
-
-at_least_more : (line few many : ℕ) → few ≤ many → nat_le line few ≡ true → nat_le line many ≡ true
-at_least_more line few many more is =
-    let low = leb-true line few is in le-leb line many (omega arith)
 
 pub refutes_more : (box : ZoneBoxView) (question : Question)
     (above below above_too below_too : ℕ → Bool)
@@ -112,13 +94,13 @@ refutes_more box question above below above_too below_too more_above more_below 
         → too_many box.sheet question (front above) (back below) claim ≡ true
         → too_many box.sheet question (front above_too) (back below_too) claim ≡ true
     by_claim Inside =
-        at_least_more question.line (count_by (front above) rivals)
+        le_more question.line (count_by (front above) rivals)
         (count_by (front above_too) rivals)
         (count_more (front above) (front above_too) rivals
         (λ x has. or_more (marked_before box.zone x) (above x) (above_too x)
         (more_above x has)))
     by_claim Outside =
-        at_least_more (length box.sheet.clubs - question.line) (count_by (back below) rivals)
+        le_more (length box.sheet.clubs - question.line) (count_by (back below) rivals)
         (count_by (back below_too) rivals)
         (count_more (back below) (back below_too) rivals
         (λ x has. or_more (marked_after box.zone x) (below x) (below_too x)

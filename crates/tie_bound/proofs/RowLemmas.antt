@@ -1,14 +1,13 @@
 -- Tables that begin with what was played: rows of single values, and the matches that are not
 -- played, one after another.
-use Rattle.std.proofs.Common.{◌≡◌, ◌≢◌, ◌⊎◌, inl, inr, ℕ, ◌+◌, ◌*◌, ◌<◌, ◌≤◌, ℤ, pos, ◌+ℤ◌}
-use Rattle.std.proofs.Common.{◌-ℤ◌, ◌≤ℤ◌, Bool, true, false, ◌&&◌, cond, List}
-use Rattle.std.proofs.Common.{[], length, get_or, set, take, replicate, Option, sym, ap, refl, ◌∙◌}
-use Rattle.std.proofs.Common.{subst, arith}
+use Rattle.std.proofs.Common.{◌≡◌, ◌≢◌, ◌⊎◌, inl, inr, ℕ, ◌+◌, ◌*◌, ◌<◌, ◌≤◌, ℤ, pos, ◌+ℤ◌, ◌-ℤ◌}
+use Rattle.std.proofs.Common.{◌≤ℤ◌, Bool, true, false, ◌&&◌, cond, List, [], length, get_or, set}
+use Rattle.std.proofs.Common.{take, replicate, Option, sym, ap, refl, ◌∙◌, subst, arith}
 use Rattle.std.specs.List.{list_all}
 use Rattle.std.proofs.lemmas.Bool.{and_from, cases_eq, cases_lt, ne_eqb}
 use Rattle.std.proofs.lemmas.Int.{ints}
-use Rattle.std.proofs.lemmas.List.{get_or-set_same, get_or-set_other, take_all}
-use Rattle.std.proofs.lemmas.List.{get_or-replicate, get_or_past, length-replicate}
+use Rattle.std.proofs.lemmas.List.{get_or-set_same, get_or-set_other, take_all, get_or-replicate}
+use Rattle.std.proofs.lemmas.List.{get_or_past, length-replicate}
 use Rattle.league_core.specs.declared.sheet.Fixture.{Fixture}
 use Rattle.league_core.specs.declared.season.Score.{Score}
 use Rattle.league_core.specs.game.Sheets.{is_fixture}
@@ -25,14 +24,14 @@ use Rattle.score_box.specs.declared.totals.Totals.{Totals}
 use Rattle.score_box.specs.inside.Totals.{total_in, worth_in, AreTotals, AreTotalsNear}
 use Rattle.score_box.specs.inside.Unplayed.{unplayed_in}
 use Rattle.score_box.proofs.SplitLemmas.{least_end, greatest_end, end_at_fixture, no_match}
-use Rattle.score_box.proofs.SplitLemmas.{range_split, KeepsPlayed, total_take}
-use Rattle.score_box.proofs.SplitLemmas.{unplayed_few}
+use Rattle.score_box.proofs.SplitLemmas.{range_split, KeepsPlayed, total_take, unplayed_few}
 use Rattle.tie_bound.specs.declared.sums.Sums.{Sums}
 use Rattle.tie_bound.specs.inside.IntRanges.{IsRangeNear}
 use Rattle.tie_bound.specs.inside.Sums.{range_by, no_sums, sums_at, AreNear, RangesGrowBy}
 use Rattle.tie_bound.specs.inside.Tables.{Value}
 use Rattle.tie_bound.specs.inside.Rows.{column_of, IsRow, AreRows}
 use Rattle.tie_bound.proofs.SoFarLemmas.{no_sums-is}
+use Rattle.league_core.proofs.plain.Numbers.{zero_if}
 
 -- the column of a measure counts what the measure does
 worth_of-column : (measure : Measure) → worth_in (column_of measure) ≡ worth_of measure
@@ -92,10 +91,6 @@ not_there : (worth : Worth) (club : ℕ) (match : Fixture) (score : Score) → m
     → match.away ≢ club → worth_to worth club match score ≡ pos 0
 not_there worth club match score home away =
     rw (ne_eqb match.home club home, ne_eqb match.away club away) refl
-
-zero_if : (b : Bool) (n : ℤ) → n ≡ pos 0 → cond b n (pos 0) ≡ pos 0
-zero_if true n none = none
-zero_if false n none = refl
 
 -- a number that is no club's
 pub past_over : (clubs : ℕ) (fixtures : List Fixture) (scores : List (Option Score)) (club : ℕ)

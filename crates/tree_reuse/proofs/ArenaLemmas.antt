@@ -31,6 +31,10 @@ use Rattle.tree_reuse.proofs.WeightLemmas.{counts_number, counts_open, open_coun
 use Rattle.tree_reuse.proofs.WeightLemmas.{total-node_mark}
 use Rattle.tree_reuse.proofs.LinkLemmas.{linked-set_leaf, linked_split}
 
+-- some node, for what stands past a list
+abbrev pub any_node : Node
+any_node = record { kind = Open; parent = 0; yes = false }
+
 -- the mark of a node
 pub marked_at : (mark : Kind → ℕ) (nodes : List Node) (at : ℕ) (default : Node) → at < length nodes
     → get_or (marks mark nodes) at 0 ≡ mark (get_or nodes at default).kind
@@ -94,12 +98,17 @@ arena-number number nodes opens lents arena =
     counted_whole (times_lent number) (number_mark number) (counts_number number) nodes arena.some
     arena.whole arena.within
 
+pub arena-opens : (nodes : List Node) (opens lents : List ℕ) → IsArena nodes opens lents
+    → open_count (tree_below nodes 0) ≡ length opens
+arena-opens nodes opens lents arena =
+    counted_whole open_count open_mark counts_open nodes arena.some arena.whole arena.within
+    ∙ arena.open_listed.many
+
 pub arena-has_open : (nodes : List Node) (opens lents : List ℕ) → IsArena nodes opens lents
     → has_open (tree_below nodes 0) ≡ nat_lt 0 (length opens)
 arena-has_open nodes opens lents arena =
     has_open-count (tree_below nodes 0)
-    ∙ ap (nat_lt 0) (counted_whole open_count open_mark counts_open nodes arena.some arena.whole
-    arena.within ∙ arena.open_listed.many)
+    ∙ ap (nat_lt 0) (arena-opens nodes opens lents arena)
 
 -- it is refuted if nothing is open and nothing is lent
 pub arena-is_refuted : (nodes : List Node) (opens lents : List ℕ) → IsArena nodes opens lents

@@ -33,15 +33,17 @@ use Rattle.tree_reuse.specs.inside.Arena.{lent_taken, AllWithin, IsRoomy}
 use Rattle.league_core.specs.inside.Rooms.{RoomyListView}
 use Rattle.tree_reuse.proofs.MarkLemmas.{one_if, one_if-same, one_if-other, times_in-push}
 use Rattle.tree_reuse.proofs.MarkLemmas.{listed_within, listed_same, listed_added, listed_taken}
-use Rattle.tree_reuse.proofs.MarkLemmas.{listed_longer, listed_two}
+use Rattle.tree_reuse.proofs.MarkLemmas.{listed_longer, listed_two, listed_alike}
+use Rattle.tree_reuse.proofs.MarkLemmas.{times_in-reverse}
 use Rattle.tree_reuse.proofs.WeightLemmas.{whole_split, within_split}
 use Rattle.tree_reuse.proofs.LinkLemmas.{linked_split}
 use Rattle.tree_reuse.proofs.ArenaLemmas.{marked_at, length-marks, marks-set, is_open, arena_leaf}
-use Rattle.tree_reuse.proofs.ArenaLemmas.{arena-nodes, arena-lent}
-use Rattle.tree_reuse.proofs.RoomLemmas.{any_node, root_arena}
+use Rattle.tree_reuse.proofs.ArenaLemmas.{any_node, arena-nodes, arena-lent}
+use Rattle.tree_reuse.proofs.RoomLemmas.{root_arena}
 use Rattle.tree_reuse.proofs.FillLemmas.{filled-none, filled-set_leaf, filled_split}
 use Rattle.tree_reuse.proofs.FillLemmas.{length-filled}
 use Rattle.tree_reuse.specs.inside.Calls.{most_nodes}
+use Rattle.tree_reuse.specs.inside.Order.{live_in}
 
 -- the place on top among all that are open
 pub places_count : (opens rest : List ℕ) (at number : ℕ)
@@ -78,15 +80,6 @@ place_once nodes opens rest lents at arena =
     let mark = marked_at open_mark nodes at any_node is.0 ∙ ap open_mark is.1 in
     let each = arena.open_listed.each at in
     omega arith
-
--- lists with the same numbers list the same
-listed_alike : (marked list other : List ℕ) → IsListed marked list
-    → ((number : ℕ) → times_in number other ≡ times_in number list)
-    → length other ≡ length list → IsListed marked other
-listed_alike marked list other listed counts long = record {
-  each = λ number. counts number ∙ listed.each number;
-  many = listed.many ∙ sym long;
-}
 
 -- a leaf that comes to the place
 built_leaf : (nodes : List Node) (opens rest lents more longer : List ℕ) (at : ℕ) (kind : Kind)
@@ -224,19 +217,6 @@ pub record IsBuilding (tree : Tree) (size : ℕ) (left : List TreeNode) (nodes :
   pub others : (at : ℕ) → times_in at places ≡ 0 → get_or given at None ≡ None
   pub whole : get_or (filled given nodes) 0 open_leaf ≡ tree
   pub many : length nodes + length left ≡ size + length places
-
--- how often a number stands in a list does not depend on its order
-pub times_in-reverse : (number : ℕ) (list : List ℕ)
-    → times_in number (reverse list) ≡ times_in number list
-times_in-reverse number [] = refl
-times_in-reverse number (at ∷ list) =
-    let rest = times_in-reverse number list in
-    let last = times_in-push number at (reverse list) in
-    let first = sum_by-append (one_if number) (at ∷ []) list in
-    ap (times_in number) (reverse-cons at list) ∙ omega arith
-  where
-    reverse-cons : (x : ℕ) (xs : List ℕ) → reverse (x ∷ xs) ≡ reverse xs ++ x ∷ []
-    reverse-cons x xs = reverse-append (x ∷ []) xs
 
 -- a place elsewhere has what it had
 given-set : (given : List (Option Tree)) (places : List ℕ) (at : ℕ) (one : Option Tree)
@@ -655,15 +635,15 @@ from_item list index node default within is =
 
 -- the next node, as it was taken
 pub building_on : (tree : Tree) (size : ℕ) (node : TreeNode) (list left : List TreeNode)
-    (nodes more : List Node) (places opens lents rest next waiting lent : List ℕ) (at : ℕ)
+    (nodes more : List Node) (places opens lents rest next lent : List ℕ) (at : ℕ)
     → list ≡ node ∷ left → IsBuilding tree size list nodes places opens lents
     → places ≡ rest ++ at ∷ []
     → ((default : Node) → more ≡ nodes_taken node nodes at default)
-    → next ≡ places_taken node (length nodes) rest → waiting ≡ open_taken node at opens
-    → lent ≡ lent_taken node at lents → IsBuilding tree size left more next waiting lent
-building_on tree size node list left nodes more places opens lents rest next waiting lent at list_is
-    building popped more_is next_is waiting_is lent_is =
-    rw (more_is any_node, next_is, waiting_is, lent_is)
+    → next ≡ places_taken node (length nodes) rest → lent ≡ lent_taken node at lents
+    → IsBuilding tree size left more next (open_taken node at opens) lent
+building_on tree size node list left nodes more places opens lents rest next lent at list_is
+    building popped more_is next_is lent_is =
+    rw (more_is any_node, next_is, lent_is)
     (building_next tree size node left nodes places opens lents rest at
     (subst (λ (l : List TreeNode). IsBuilding tree size l nodes places opens lents) list_is
     building)
@@ -685,40 +665,22 @@ lents_few nodes opens lents arena =
     let two = arena-lent nodes opens lents arena in
     omega arith
 
--- a list that is turned over has the same numbers
-listed_turned : (marked list : List ℕ) → IsListed marked list → IsListed marked (reverse list)
-listed_turned marked list listed = record {
-  each = λ number. times_in-reverse number list ∙ listed.each number;
-  many = listed.many ∙ sym (length-reverse list);
-}
-
--- the open leaves of what was made may stand the other way round
-pub arena_turned : (nodes : List Node) (places opens turned lents : List ℕ)
-    → IsArena nodes opens lents → places ≡ [] → turned ≡ places ++ reverse opens
-    → IsArena nodes turned lents
-arena_turned nodes places opens turned lents arena none is =
-    rw (is ∙ ap (λ ps. ps ++ reverse opens) none) (record {
-      some = arena.some;
-      whole = arena.whole;
-      within = arena.within;
-      linked = arena.linked;
-      open_listed = listed_turned (marks open_mark nodes) opens arena.open_listed;
-      lent_listed = arena.lent_listed;
-    })
-
 -- what was made has room for each lent leaf
-pub built_roomy : (size : ℕ) (made done : RoomyListView Node) (waits waiting lent : RoomyListView ℕ)
-    → IsArena made.items waits.items lent.items → length made.items ≤ size → size ≤ most_nodes
-    → done.items ≡ made.items → waiting.items ≡ waits.items
-    → 2 * length lent.items ≤ done.room → 2 * length lent.items ≤ waiting.room
-    → IsRoomy done waiting lent
-built_roomy size made done waits waiting lent arena count few same same_waiting node_room wait_room
-    =
-    let half = lents_few made.items waits.items lent.items arena in
+pub built_roomy : (size : ℕ) (made done : RoomyListView Node) (leaves live lent : RoomyListView ℕ)
+    (opens : List ℕ) → IsArena made.items opens lent.items
+    → live_in made.items ≡ reverse leaves.items → length made.items ≤ size → size ≤ most_nodes
+    → done.items ≡ made.items → live.items ≡ leaves.items
+    → 2 * length lent.items ≤ done.room → length lent.items ≤ live.room
+    → IsRoomy done live lent
+built_roomy size made done leaves live lent opens arena order count few same same_live node_room
+    live_room =
+    let half = lents_few made.items opens lent.items arena in
     let long = ap length same in
     record {
-      arena = rw (same, same_waiting) arena;
+      opens = opens;
+      arena = rw same arena;
+      order = ap live_in same ∙ order ∙ ap reverse (sym same_live);
       few = omega arith;
       node_room = node_room;
-      open_room = wait_room;
+      live_room = live_room;
     }

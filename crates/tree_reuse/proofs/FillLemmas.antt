@@ -1,8 +1,7 @@
 -- The trees of an arena that is being made from a list: places that still wait stand for the trees
 -- that come there.
-use Rattle.std.proofs.Common.{◌≡◌, ℕ, zero, suc, ◌+◌, ◌<◌, Bool, List, [], ◌∷◌, ◌++◌}
-use Rattle.std.proofs.Common.{length, get_or, set, Option, Some, None, refl, sym, ap, ◌∙◌, subst}
-use Rattle.std.proofs.Common.{arith}
+use Rattle.std.proofs.Common.{◌≡◌, ℕ, zero, suc, ◌+◌, ◌<◌, Bool, List, [], ◌∷◌, ◌++◌, length}
+use Rattle.std.proofs.Common.{get_or, set, Option, Some, None, refl, sym, ap, ◌∙◌, subst, arith}
 use Rattle.std.proofs.lemmas.List.{get_or_append_left}
 use Rattle.std.proofs.lemmas.Option.{none-some, same_Some}
 use Rattle.league_core.specs.declared.zone.Test.{Test}
@@ -12,6 +11,7 @@ use Rattle.tree_reuse.specs.declared.node.Kind.TheVariants.{Open, Lent, Refuted,
 use Rattle.tree_reuse.specs.declared.node.Node.{Node}
 use Rattle.tree_reuse.specs.inside.Arena.{shape_over, shapes, AllWithin, AreHalvesWithin}
 use Rattle.tree_reuse.specs.inside.Arena.{IsLeafKind, filled}
+use Rattle.league_core.proofs.plain.Slots.{at_end}
 
 -- no node is given a tree
 abbrev pub NoneGiven : List (Option Tree) → Type 0
@@ -73,14 +73,6 @@ shape_over-within (Split test fresh half) trees more within =
     ∙ ap (λ t. branch test fresh (get_or trees half open_leaf) t)
     (get_or_append_left trees more open_leaf (suc half) within)
 
-at_end : (trees : List Tree) (a b : Tree) (size : ℕ) → size ≡ length trees
-    → (get_or (trees ++ a ∷ b ∷ []) size open_leaf ≡ a)
-    × (get_or (trees ++ a ∷ b ∷ []) (suc size) open_leaf ≡ b)
-at_end [] a b zero is = (refl, refl)
-at_end [] a b (suc size) is = absurd (omega arith)
-at_end (t ∷ trees) a b zero is = absurd (omega arith)
-at_end (t ∷ trees) a b (suc size) is = at_end trees a b size (omega arith)
-
 -- two nodes more at the end, whose trees are given
 filled-longer : (given : List (Option Tree)) (nodes : List Node) (first second : Node) (a b : Tree)
     → length given ≡ length nodes → AllWithin nodes
@@ -117,7 +109,7 @@ filled_split (None ∷ given) (node ∷ nodes) zero written first second test fr
 filled_split (Some other ∷ given) (node ∷ nodes) zero written first second test fresh half a b
     within long all is kind far =
     let count = length-filled given nodes in
-    let ends = at_end (filled given nodes) a b half (omega arith) in
+    let ends = at_end (filled given nodes) a b open_leaf half (omega arith) in
     ap (λ trees. shape_over written.kind trees ∷ trees)
     (filled-longer given nodes first second a b (omega arith) all.1)
     ∙ ap (λ k. shape_over k (filled given nodes ++ a ∷ b ∷ [])

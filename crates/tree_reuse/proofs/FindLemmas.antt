@@ -1,46 +1,16 @@
 -- The list of lent leaves: its entries are lent leaves, and it has each of them.
-use Rattle.std.proofs.Common.{◌≡◌, ℕ, zero, suc, ◌+◌, ◌<◌, ◌≤◌, ◌==◌, cond, List}
-use Rattle.std.proofs.Common.{[], ◌∷◌, length, get_or, refl, sym, ap, ◌∙◌, subst, arith, inl, inr}
+use Rattle.std.proofs.Common.{◌≡◌, ℕ, zero, suc, ◌+◌, ◌<◌, ◌≤◌, ◌==◌, cond, List, [], ◌∷◌, length}
+use Rattle.std.proofs.Common.{get_or, refl, sym, ap, ◌∙◌, subst, arith, inl, inr}
 use Rattle.std.proofs.lemmas.Bool.{cases_Bool, eqb-true, eqb-false}
 use Rattle.std.proofs.lemmas.List.Sums.{sum_by-cons}
 use Rattle.tree_reuse.specs.declared.node.Kind.{Kind}
 use Rattle.tree_reuse.specs.declared.node.Kind.TheVariants.{Open, Lent, Refuted, Split}
 use Rattle.tree_reuse.specs.declared.node.Node.{Node}
-use Rattle.tree_reuse.specs.inside.Arena.{total, lent_mark, number_mark, marks, times_in, IsListed}
-use Rattle.tree_reuse.specs.inside.Arena.{IsLeafAt}
-use Rattle.tree_reuse.proofs.MarkLemmas.{one_if, one_if-same, listed_within}
-use Rattle.tree_reuse.proofs.ArenaLemmas.{marked_at, length-marks}
-
--- an entry of a list stands in it
-times_in-at : (list : List ℕ) (place : ℕ) → place < length list
-    → 1 ≤ times_in (get_or list place 0) list
-times_in-at [] place within = absurd (omega arith)
-times_in-at (x ∷ list) zero within =
-    let sum = sum_by-cons (one_if x) x list in
-    let one = one_if-same x in
-    omega arith
-times_in-at (x ∷ list) (suc place) within =
-    let sum = sum_by-cons (one_if (get_or list place 0)) x list in
-    let rest = times_in-at list place (omega arith) in
-    omega arith
-
--- where a number stands that is in a list
-record StandsAt (number : ℕ) (list : List ℕ) : Type 0 where
-  place : ℕ
-  in_list : place < length list
-  is : get_or list place 0 ≡ number
-
-stands_at : (number : ℕ) (list : List ℕ) → 1 ≤ times_in number list → StandsAt number list
-stands_at number [] some = absurd (omega arith)
-stands_at number (x ∷ list) some = elim (cases_Bool (x == number)) [
-  | inl same ↦ record { place = 0; in_list = omega arith; is = eqb-true x number same }
-  | inr different ↦
-      let none : one_if number x ≡ 0 = ap (λ b. cond b 1 0) different in
-      let sum = sum_by-cons (one_if number) x list in
-      let rest = stands_at number list (omega arith) in
-      let before = rest.in_list in
-      record { place = suc rest.place; in_list = omega arith; is = rest.is }
-]
+use Rattle.tree_reuse.specs.inside.Arena.{total, lent_mark, number_mark, marks, IsListed, IsLeafAt}
+use Rattle.tree_reuse.specs.inside.Arena.{open_mark, opens_among}
+use Rattle.tree_reuse.proofs.MarkLemmas.{listed_within, times_in-at, stands_at}
+use Rattle.tree_reuse.proofs.ArenaLemmas.{any_node, marked_at, length-marks}
+use Rattle.league_core.proofs.plain.Slots.{get_or-default}
 
 -- if the marks are more than none, one of them is
 record MarkedAt (ms : List ℕ) : Type 0 where
@@ -85,13 +55,6 @@ entry_within nodes lents place listed within =
     let long = length-marks lent_mark nodes in
     omega arith
 
--- an entry may be named by any number past the list
-pub entry_same : (list : List ℕ) (place other : ℕ) → place < length list
-    → get_or list place 0 ≡ get_or list place other
-entry_same [] place other within = absurd (omega arith)
-entry_same (x ∷ list) zero other within = refl
-entry_same (x ∷ list) (suc place) other within = entry_same list place other (omega arith)
-
 -- what stands in a list of nodes, whatever is said of what stands past it
 node_same : (list : List Node) (at : ℕ) (one other : Node) → at < length list
     → (get_or list at one).kind ≡ (get_or list at other).kind
@@ -109,7 +72,7 @@ found_at number nodes lents place kind default listed within is marked =
     let in_nodes = entry_within nodes lents place listed within in
     record {
       in_list = within;
-      entry = entry_same lents place leaf within;
+      entry = get_or-default lents place leaf within;
       in_nodes = in_nodes;
       kind = λ other. node_same nodes leaf other default in_nodes ∙ is
           ∙ is_lent number kind marked;
@@ -136,24 +99,33 @@ none_left number nodes lents default listed once none =
     let same = ap (λ n. number_mark number (get_or nodes n default).kind) stands.is in
     omega arith
 
--- one entry more that is not lent under the number
-pub none_from : (number : ℕ) (nodes : List Node) (lents : List ℕ) (place from : ℕ)
-    (default : Node) → IsListed (marks lent_mark nodes) lents → from ≡ place + 1
-    → place < length lents
-    → number_mark number (get_or nodes (get_or lents place 0) default).kind ≡ 0
-    → ((k : ℕ) (other : Node) → from ≤ k → k < length lents
-    → number_mark number (get_or nodes (get_or lents k 0) other).kind ≡ 0)
-    → (k : ℕ) (other : Node) → place ≤ k → k < length lents
-    → number_mark number (get_or nodes (get_or lents k 0) other).kind ≡ 0
-none_from number nodes lents place from default listed next within none rest k other later in_list =
+-- one entry more without a mark
+pub none_from : (mark : Kind → ℕ) (nodes : List Node) (list : List ℕ) (place from : ℕ)
+    (default : Node) → get_or list place 0 < length nodes → from ≡ place + 1
+    → mark (get_or nodes (get_or list place 0) default).kind ≡ 0
+    → ((k : ℕ) (other : Node) → from ≤ k → k < length list
+    → mark (get_or nodes (get_or list k 0) other).kind ≡ 0)
+    → (k : ℕ) (other : Node) → place ≤ k → k < length list
+    → mark (get_or nodes (get_or list k 0) other).kind ≡ 0
+none_from mark nodes list place from default inside next none rest k other later in_list =
     elim (cases_Bool (k == place)) [
       | inl same ↦
           let is : k ≡ place = eqb-true k place same in
-          subst (λ (n : ℕ). number_mark number (get_or nodes (get_or lents n 0) other).kind ≡ 0)
-          (sym is)
-          (ap (number_mark number) (node_same nodes (get_or lents place 0) other default
-          (entry_within nodes lents place listed within)) ∙ none)
+          subst (λ (n : ℕ). mark (get_or nodes (get_or list n 0) other).kind ≡ 0) (sym is)
+          (ap mark (node_same nodes (get_or list place 0) other default inside) ∙ none)
       | inr different ↦
           let apart = eqb-false k place different in
           rest k other (omega arith) in_list
     ]
+
+-- no entry is open
+pub none_among : (nodes : List Node) (list : List ℕ)
+    → ((k : ℕ) → k < length list
+    → open_mark (get_or nodes (get_or list k 0) any_node).kind ≡ 0)
+    → opens_among nodes list ≡ 0
+none_among nodes [] none = refl
+none_among nodes (at ∷ list) none =
+    let sum = sum_by-cons (λ n. open_mark (get_or nodes n any_node).kind) at list in
+    let first = none 0 (omega arith) in
+    let rest = none_among nodes list (λ k inside. none (suc k) (omega arith)) in
+    omega arith

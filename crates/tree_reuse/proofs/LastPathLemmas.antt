@@ -18,7 +18,7 @@ use Rattle.tree_reuse.specs.inside.Arena.{IsLeafAt}
 use Rattle.tree_reuse.specs.inside.LastPaths.{split_test, IsStep, LeadsToNode, TakesInHand}
 use Rattle.tree_reuse.specs.inside.LastPaths.{AreClimbing}
 use Rattle.tree_reuse.proofs.LinkLemmas.{way_up, way_starts}
-use Rattle.tree_reuse.proofs.RoomLemmas.{any_node}
+use Rattle.tree_reuse.proofs.ArenaLemmas.{any_node}
 
 -- a split with a test is a split by it
 splits_by : (kind : Kind) (test : Test) → split_test kind ≡ Some test

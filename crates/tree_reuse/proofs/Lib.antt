@@ -1,12 +1,14 @@
--- The arena: marks and lists of nodes, trees, weights, links, what each call does, lent leaves,
--- rooms, the way that is kept, lists of nodes, how an arena is made, with its open leaves in order;
--- then zones, and trees that are carried over.
+-- The arena: marks and lists of nodes, trees, weights, links, what each call does, lent leaves, the
+-- order of leaves and which one is lent, rooms, the way that is kept, lists of nodes, how an arena
+-- is made, with its leaves in order; then zones, and trees that are carried over.
 pub mod MarkLemmas
 pub mod ShapeLemmas
 pub mod WeightLemmas
 pub mod LinkLemmas
 pub mod ArenaLemmas
 pub mod FindLemmas
+pub mod LiveLemmas
+pub mod LendLemmas
 pub mod RoomLemmas
 pub mod LastPathLemmas
 pub mod KeptRoomLemmas

@@ -1,5 +1,5 @@
 -- Lists of nodes that are read from their end, one node after the other.
-use Rattle.std.proofs.Common.{◌≡◌, ℕ, zero, suc, ◌+◌, ◌-◌, ◌<◌, ◌≤◌, true, false, ◌==◌, List, []}
+use Rattle.std.proofs.Common.{◌≡◌, ℕ, zero, suc, ◌+◌, ◌-◌, ◌<◌, ◌≤◌, true, false, List, []}
 use Rattle.std.proofs.Common.{◌∷◌, length, drop, get_or, Some, None, refl, sym, ap, ◌∙◌}
 use Rattle.std.proofs.Common.{add-one, drop-cons, arith}
 use Rattle.std.specs.Option.{is_some}

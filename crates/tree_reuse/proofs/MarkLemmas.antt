@@ -1,11 +1,13 @@
 -- Lists of the nodes that are marked: what a change of one mark does to them.
 use Rattle.std.proofs.Common.{◌≡◌, ◌≢◌, ℕ, zero, suc, ◌+◌, ◌<◌, ◌≤◌, ◌==◌, cond}
 use Rattle.std.proofs.Common.{List, [], ◌∷◌, ◌++◌, length, get_or, set, refl, sym, ap, ◌∙◌, subst}
+use Rattle.std.proofs.Common.{reverse}
 use Rattle.std.proofs.Common.{arith, length-append, inl, inr, get_or-set_same, get_or-set_other}
 use Rattle.std.specs.List.{remove}
 use Rattle.std.proofs.lemmas.Bool.{cases_Bool, eqb-true, eqb-false, eq-eqb}
-use Rattle.std.proofs.lemmas.List.{get_or_past, set-get_or}
-use Rattle.std.proofs.lemmas.List.Sums.{sum_by_push, sum_by-remove}
+use Rattle.std.proofs.lemmas.List.{get_or_past, set-get_or, reverse-append}
+use Rattle.std.proofs.lemmas.List.Sums.{sum_by_push, sum_by-remove, sum_by-append, sum_by-cons}
+use Rattle.std.specs.List.{sum_by}
 use Rattle.tree_reuse.specs.inside.Arena.{total, times_in, IsListed}
 
 -- one if two numbers are the same, none otherwise
@@ -204,3 +206,58 @@ listed_two marked list size listed long = record {
         let second = shifted number (length ms) in
         let rest = ended ms number in
         omega arith
+
+-- lists with the same numbers list the same
+pub listed_alike : (marked list other : List ℕ) → IsListed marked list
+    → ((number : ℕ) → times_in number other ≡ times_in number list)
+    → length other ≡ length list → IsListed marked other
+listed_alike marked list other listed counts long = record {
+  each = λ number. counts number ∙ listed.each number;
+  many = listed.many ∙ sym long;
+}
+
+-- a sum over a list does not depend on its order
+pub sum_by-reverse : (weight : ℕ → ℕ) (list : List ℕ)
+    → sum_by weight (reverse list) ≡ sum_by weight list
+sum_by-reverse weight [] = refl
+sum_by-reverse weight (at ∷ list) =
+    let rest = sum_by-reverse weight list in
+    let last = sum_by_push weight (reverse list) at in
+    let first = sum_by-append weight (at ∷ []) list in
+    ap (sum_by weight) (reverse-append (at ∷ []) list) ∙ omega arith
+
+-- nor does how often a number stands there
+pub times_in-reverse : (number : ℕ) (list : List ℕ)
+    → times_in number (reverse list) ≡ times_in number list
+times_in-reverse number list = sum_by-reverse (one_if number) list
+
+-- an entry of a list stands in it
+pub times_in-at : (list : List ℕ) (place : ℕ) → place < length list
+    → 1 ≤ times_in (get_or list place 0) list
+times_in-at [] place within = absurd (omega arith)
+times_in-at (x ∷ list) zero within =
+    let sum = sum_by-cons (one_if x) x list in
+    let one = one_if-same x in
+    omega arith
+times_in-at (x ∷ list) (suc place) within =
+    let sum = sum_by-cons (one_if (get_or list place 0)) x list in
+    let rest = times_in-at list place (omega arith) in
+    omega arith
+
+-- where a number stands that is in a list
+pub record StandsAt (number : ℕ) (list : List ℕ) : Type 0 where
+  pub place : ℕ
+  pub in_list : place < length list
+  pub is : get_or list place 0 ≡ number
+
+pub stands_at : (number : ℕ) (list : List ℕ) → 1 ≤ times_in number list → StandsAt number list
+stands_at number [] some = absurd (omega arith)
+stands_at number (x ∷ list) some = elim (cases_Bool (x == number)) [
+  | inl same ↦ record { place = 0; in_list = omega arith; is = eqb-true x number same }
+  | inr different ↦
+      let none : one_if number x ≡ 0 = ap (λ b. cond b 1 0) different in
+      let sum = sum_by-cons (one_if number) x list in
+      let rest = stands_at number list (omega arith) in
+      let before = rest.in_list in
+      record { place = suc rest.place; in_list = omega arith; is = rest.is }
+]

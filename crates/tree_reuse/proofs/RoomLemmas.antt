@@ -1,7 +1,7 @@
 -- The calls on a tree, said of its three lists and their rooms.
 use Rattle.std.proofs.Common.{◌≡◌, ℕ, zero, suc, ◌+◌, ◌*◌, ◌-◌, ◌<◌, ◌≤◌, Bool, true, false, List}
 use Rattle.std.proofs.Common.{[]}
-use Rattle.std.proofs.Common.{◌∷◌, ◌++◌, length, get_or, set, refl, sym, ap, ◌∙◌, subst}
+use Rattle.std.proofs.Common.{◌∷◌, ◌++◌, length, reverse, get_or, set, refl, sym, ap, ◌∙◌, subst}
 use Rattle.std.proofs.Common.{arith}
 use Rattle.std.proofs.Common.{length-append, append_assoc, add-one}
 use Rattle.std.specs.List.{remove}
@@ -19,114 +19,77 @@ use Rattle.tree_reuse.specs.declared.node.Kind.TheVariants.{Open, Lent, Refuted,
 use Rattle.tree_reuse.specs.declared.node.Node.{Node}
 use Rattle.tree_reuse.specs.inside.Arena.{tree_below, total, marks, number_mark, with_kind, IsArena}
 use Rattle.tree_reuse.specs.inside.Arena.{IsLeafAt, IsRoomy, shapes, weights, times_in, IsListed}
-use Rattle.tree_reuse.specs.inside.Arena.{IsLeafKind, open_mark, lent_mark}
+use Rattle.tree_reuse.specs.inside.Arena.{IsLeafKind, IsLiveKind, open_mark, lent_mark}
+use Rattle.tree_reuse.specs.inside.Arena.{opens_among}
+use Rattle.tree_reuse.specs.inside.Order.{live_in, replaced}
 use Rattle.tree_reuse.proofs.MarkLemmas.{one_if-other, one_if-same, times_in-push, listed_within}
 use Rattle.tree_reuse.proofs.MarkLemmas.{listed_added, listed_taken, taken_last}
 use Rattle.tree_reuse.proofs.ShapeLemmas.{shapes-set_opened, get_or-mapped}
-use Rattle.tree_reuse.proofs.ArenaLemmas.{marked_at, length-marks, arena_leaf}
+use Rattle.tree_reuse.proofs.ArenaLemmas.{any_node, marked_at, length-marks, arena_leaf}
 use Rattle.tree_reuse.proofs.ArenaLemmas.{arena-nodes, arena-lent, arena-number, arena-has_open}
-use Rattle.tree_reuse.proofs.ArenaLemmas.{top_is_open, lent_step, lent_once_step, lent_tree}
+use Rattle.tree_reuse.proofs.LiveLemmas.{live_leaf, live_halves, replaced-self, replaced-reverse}
+use Rattle.tree_reuse.proofs.LendLemmas.{IsInOrder, live_opens, lent_stands_once}
 use Rattle.tree_reuse.proofs.ArenaLemmas.{reopened_step, refuted_step, leaf_tree, nodes_split}
 use Rattle.tree_reuse.proofs.ArenaLemmas.{split_step, split_tree}
 use Rattle.tree_reuse.specs.inside.Calls.{most_nodes}
 
--- some node, for what stands past a list
-abbrev pub any_node : Node
-any_node = record { kind = Open; parent = 0; yes = false }
+-- its list of leaves is in order
+pub in_order : (nodes : RoomyListView Node) (live lent : RoomyListView ℕ)
+    (roomy : IsRoomy nodes live lent)
+    → IsInOrder nodes.items live.items roomy.opens lent.items
+in_order nodes live lent roomy = record { arena = roomy.arena; order = roomy.order }
 
--- if a leaf is open the stack has it
-pub some_waiting : (nodes : RoomyListView Node) (waiting lent : RoomyListView ℕ) (tree : Tree)
-    → IsRoomy nodes waiting lent → tree_below nodes.items 0 ≡ tree → has_open tree ≡ true
-    → 0 < length waiting.items
-some_waiting nodes waiting lent tree roomy is some =
-    ltb-true 0 (length waiting.items)
-    (sym (arena-has_open nodes.items waiting.items lent.items roomy.arena)
-    ∙ ap has_open is ∙ some)
-
--- what a write and two moves between the lists make of a tree
-pub record LendsLast (number : ℕ) (tree : Tree) (nodes : RoomyListView Node)
-    (waiting lent : RoomyListView ℕ)
-    : Type 0 where
-  pub roomy : IsRoomy nodes waiting lent
-  pub back : put number open_leaf (tree_below nodes.items 0) ≡ tree
-  pub once : times_lent number (tree_below nodes.items 0) ≡ 1
-
--- the leaf that was on top
-pub last_within : (nodes more : RoomyListView Node) (waiting taken lent last : RoomyListView ℕ)
-    (leaf : ℕ)
-    → IsRoomy nodes waiting lent → more.items ≡ nodes.items → taken.items ≡ waiting.items
-    → taken.items ≡ last.items ++ leaf ∷ [] → leaf < length more.items
-last_within nodes more waiting taken lent last leaf roomy same same_waiting popped =
-    let arena = subst (λ (ws : List ℕ). IsArena nodes.items ws lent.items)
-    (sym same_waiting ∙ popped) roomy.arena in
-    let top = top_is_open nodes.items last.items lent.items leaf any_node arena in
-    subst (λ (ns : List Node). leaf < length ns) (sym same) top.in_nodes
-
-pub lends_last : (number : ℕ) (tree : Tree) (nodes more done : RoomyListView Node)
-    (waiting taken last lent longer lents : RoomyListView ℕ) (leaf room : ℕ)
-    → IsRoomy nodes waiting lent → tree_below nodes.items 0 ≡ tree
-    → times_lent number tree ≡ 0 → node_count tree + lent_count tree ≤ most_nodes
-    → more.items ≡ nodes.items → taken.items ≡ waiting.items → longer.items ≡ lent.items
-    → room ≡ 2 * (length lent.items + 1) → room ≤ more.room → room ≤ taken.room
-    → taken.items ≡ last.items ++ leaf ∷ [] → last.room ≡ taken.room + 1
-    → done.room ≡ more.room
-    → ((default : Node) → done.items
-    ≡ set more.items leaf (with_kind (Lent number) (get_or more.items leaf default)))
-    → lents.items ≡ longer.items ++ leaf ∷ []
-    → LendsLast number tree done last lents
-lends_last number tree nodes more done waiting taken last lent longer lents leaf room roomy is none
-    few same same_waiting same_lent room_is node_room wait_room popped last_room done_room written
-    pushed =
-    let arena = subst (λ (ws : List ℕ). IsArena nodes.items ws lent.items)
-    (sym same_waiting ∙ popped) roomy.arena in
-    let free : times_lent number (tree_below nodes.items 0) ≡ 0 = ap (times_lent number) is ∙ none
+-- if a leaf is open the list has it
+pub some_open : (nodes : RoomyListView Node) (live lent : RoomyListView ℕ) (tree : Tree)
+    → IsRoomy nodes live lent → tree_below nodes.items 0 ≡ tree → has_open tree ≡ true
+    → 0 < opens_among nodes.items live.items
+some_open nodes live lent tree roomy is some =
+    let opened = live_opens nodes.items live.items roomy.opens lent.items
+    (in_order nodes live lent roomy) in
+    let less = ltb-true 0 (length roomy.opens)
+    (sym (arena-has_open nodes.items roomy.opens lent.items roomy.arena) ∙ ap has_open is ∙ some)
     in
-    let done_is : done.items ≡ set nodes.items leaf
-    (with_kind (Lent number) (get_or nodes.items leaf any_node)) =
-    written any_node
-    ∙ ap (λ ns. set ns leaf (with_kind (Lent number) (get_or ns leaf any_node))) same in
-    let lents_are : lents.items ≡ lent.items ++ leaf ∷ [] =
-    pushed ∙ ap (λ list. list ++ leaf ∷ []) same_lent in
-    let step = lent_step nodes.items last.items lent.items leaf number any_node arena in
-    let now = subst (λ (ns : List Node). IsArena ns last.items lents.items) (sym done_is)
-    (subst (λ (ls : List ℕ). IsArena
-    (set nodes.items leaf (with_kind (Lent number) (get_or nodes.items leaf any_node)))
-    last.items ls) (sym lents_are) step) in
-    let size = ap length done_is ∙ length-set nodes.items leaf
-    (with_kind (Lent number) (get_or nodes.items leaf any_node)) in
-    let count = ap length lents_are ∙ length-append lent.items (leaf ∷ []) in
-    let nodes_counted = arena-nodes nodes.items waiting.items lent.items roomy.arena in
-    let lent_counted = arena-lent nodes.items waiting.items lent.items roomy.arena in
+    omega arith
+
+-- when the first open leaf was lent, room was taken for it before
+pub lends_room : (tree : Tree) (nodes more done : RoomyListView Node)
+    (live taken lent lents : RoomyListView ℕ) (many : ℕ) → IsRoomy nodes live lent
+    → tree_below nodes.items 0 ≡ tree → node_count tree + lent_count tree ≤ most_nodes
+    → (opens : List ℕ) → IsArena done.items opens lents.items
+    → live_in done.items ≡ reverse live.items → taken.items ≡ live.items
+    → length done.items ≡ length nodes.items → length lents.items ≡ length lent.items + 1
+    → many ≡ length lent.items + 1 → 2 * many ≤ more.room → many ≤ taken.room
+    → done.room ≡ more.room → IsRoomy done taken lents
+lends_room tree nodes more done live taken lent lents many roomy is few opens arena order same size
+    longer many_is node_room live_room done_room =
+    let nodes_counted = arena-nodes nodes.items roomy.opens lent.items roomy.arena in
+    let lent_counted = arena-lent nodes.items roomy.opens lent.items roomy.arena in
     let few_nodes = ap node_count is in
     let few_lent = ap lent_count is in
     record {
-      roomy = record {
-        arena = now;
-        few = omega arith;
-        node_room = omega arith;
-        open_room = omega arith;
-      };
-      back = ap (λ ns. put number open_leaf (tree_below ns 0)) done_is
-          ∙ lent_tree nodes.items last.items lent.items leaf number any_node arena free ∙ is;
-      once = ap (λ ns. times_lent number (tree_below ns 0)) done_is
-          ∙ lent_once_step nodes.items last.items lent.items leaf number any_node arena free;
+      opens = opens;
+      arena = arena;
+      order = order ∙ ap reverse (sym same);
+      few = omega arith;
+      node_room = omega arith;
+      live_room = omega arith;
     }
 
 -- the leaf of a number is marked once
 pub marked_once : (number : ℕ) (tree : Tree) (nodes : RoomyListView Node)
-    (waiting lent : RoomyListView ℕ)
-    (list : List Node) → IsRoomy nodes waiting lent → tree_below nodes.items 0 ≡ tree
+    (live lent : RoomyListView ℕ)
+    (list : List Node) → IsRoomy nodes live lent → tree_below nodes.items 0 ≡ tree
     → times_lent number tree ≡ 1 → list ≡ nodes.items
     → total (marks (number_mark number) list) ≡ 1
-marked_once number tree nodes waiting lent list roomy is once same =
+marked_once number tree nodes live lent list roomy is once same =
     ap (λ ns. total (marks (number_mark number) ns)) same
-    ∙ sym (arena-number number nodes.items waiting.items lent.items roomy.arena)
+    ∙ sym (arena-number number nodes.items roomy.opens lent.items roomy.arena)
     ∙ ap (times_lent number) is ∙ once
 
 -- what the return of a lent leaf makes of a tree
-pub record Returns (tree : Tree) (nodes : RoomyListView Node) (waiting lent : RoomyListView ℕ) :
+pub record Returns (tree : Tree) (nodes : RoomyListView Node) (live lent : RoomyListView ℕ) :
     Type 0 where
-  pub roomy : IsRoomy nodes waiting lent
+  pub roomy : IsRoomy nodes live lent
   pub tree_is : tree_below nodes.items 0 ≡ tree
 
 -- the leaf was taken off the list of lent ones
@@ -149,104 +112,132 @@ leaf_removed number nodes lent less list slice place leaf same same_lent at take
     in_range (x ∷ xs) zero other within = refl
     in_range (x ∷ xs) (suc i) other within = in_range xs i other (omega arith)
 
+-- it stands once in the list of leaves that are open or lent
+pub removed_once_lent : (number : ℕ) (tree : Tree) (nodes : RoomyListView Node)
+    (live lent less : RoomyListView ℕ) (list : List Node) (slice : List ℕ) (place leaf : ℕ)
+    → IsRoomy nodes live lent → tree_below nodes.items 0 ≡ tree → times_lent number tree ≡ 1
+    → list ≡ nodes.items → slice ≡ lent.items
+    → IsLeafAt number list slice place (get_or slice place 0)
+    → leaf ≡ get_or lent.items place leaf → less.items ≡ remove lent.items place
+    → times_in leaf live.items ≡ 1
+removed_once_lent number tree nodes live lent less list slice place leaf roomy is once same
+    same_lent at taken removed =
+    lent_stands_once number nodes.items live.items roomy.opens lent.items place leaf
+    (in_order nodes live lent roomy)
+    (leaf_removed number nodes lent less list slice place leaf same same_lent at taken removed)
+    (ap (times_lent number) is ∙ once)
+
 pub reopens : (number : ℕ) (tree : Tree) (nodes done : RoomyListView Node)
-    (waiting lent less longer : RoomyListView ℕ) (list : List Node) (slice : List ℕ)
+    (live lent less : RoomyListView ℕ) (list : List Node) (slice : List ℕ)
     (place leaf : ℕ)
-    → IsRoomy nodes waiting lent → tree_below nodes.items 0 ≡ tree → times_lent number tree ≡ 1
+    → IsRoomy nodes live lent → tree_below nodes.items 0 ≡ tree → times_lent number tree ≡ 1
     → list ≡ nodes.items → slice ≡ lent.items
     → IsLeafAt number list slice place (get_or slice place 0)
     → leaf ≡ get_or lent.items place leaf → less.items ≡ remove lent.items place
     → done.room ≡ nodes.room
     → ((default : Node) → done.items
     ≡ set nodes.items leaf (with_kind Open (get_or nodes.items leaf default)))
-    → longer.items ≡ waiting.items ++ leaf ∷ [] → longer.room + 1 ≡ waiting.room
-    → Returns (put number open_leaf tree) done longer less
-reopens number tree nodes done waiting lent less longer list slice place leaf roomy is once same
-    same_lent at taken removed done_room written pushed wait_room =
+    → Returns (put number open_leaf tree) done live less
+reopens number tree nodes done live lent less list slice place leaf roomy is once same same_lent at
+    taken removed done_room written =
     let there = leaf_removed number nodes lent less list slice place leaf same same_lent at taken
     removed in
-    let step = reopened_step nodes.items waiting.items lent.items place leaf number any_node
+    let step = reopened_step nodes.items roomy.opens lent.items place leaf number any_node
     roomy.arena there in
+    let order = live_leaf nodes.items leaf Open any_node there.in_nodes
+    (subst (λ (kind : Kind). IsLiveKind kind) (sym (there.kind any_node)) tt) tt
+    ∙ replaced-self leaf (live_in nodes.items) ∙ roomy.order in
     let count = length-remove lent.items place there.in_list in
     let shorter = ap length removed in
     let size = ap length (written any_node) ∙ length-set nodes.items leaf
     (with_kind Open (get_or nodes.items leaf any_node)) in
     let few = roomy.few in
     let node_room = roomy.node_room in
-    let open_room = roomy.open_room in
+    let live_room = roomy.live_room in
     record {
       roomy = record {
-        arena = rw (written any_node, pushed, removed) step;
+        opens = roomy.opens ++ leaf ∷ [];
+        arena = rw (written any_node, removed) step;
+        order = ap live_in (written any_node) ∙ order;
         few = omega arith;
         node_room = omega arith;
-        open_room = omega arith;
+        live_room = omega arith;
       };
       tree_is = ap (λ ns. tree_below ns 0) (written any_node)
-          ∙ leaf_tree nodes.items waiting.items lent.items place leaf number open_leaf Open any_node
+          ∙ leaf_tree nodes.items roomy.opens lent.items place leaf number open_leaf Open any_node
           roomy.arena there (ap (times_lent number) is ∙ once) refl
           ∙ ap (put number open_leaf) is;
     }
 
 pub refutes : (number : ℕ) (tree : Tree) (nodes done : RoomyListView Node)
-    (waiting lent less : RoomyListView ℕ)
+    (live lent less fewer : RoomyListView ℕ)
     (list : List Node) (slice : List ℕ) (place leaf : ℕ) (reason : Reason) (fresh : Bool)
-    → IsRoomy nodes waiting lent → tree_below nodes.items 0 ≡ tree → times_lent number tree ≡ 1
+    → IsRoomy nodes live lent → tree_below nodes.items 0 ≡ tree → times_lent number tree ≡ 1
     → list ≡ nodes.items → slice ≡ lent.items
     → IsLeafAt number list slice place (get_or slice place 0)
     → leaf ≡ get_or lent.items place leaf → less.items ≡ remove lent.items place
     → done.room ≡ nodes.room
     → ((default : Node) → done.items
     ≡ set nodes.items leaf (with_kind (Refuted reason fresh) (get_or nodes.items leaf default)))
-    → Returns (put number (refuted_leaf reason fresh) tree) done waiting less
-refutes number tree nodes done waiting lent less list slice place leaf reason fresh roomy is once
-    same same_lent at taken removed done_room written =
+    → fewer.items ≡ replaced leaf [] live.items → fewer.room ≡ live.room + 1
+    → Returns (put number (refuted_leaf reason fresh) tree) done fewer less
+refutes number tree nodes done live lent less fewer list slice place leaf reason fresh roomy is once
+    same same_lent at taken removed done_room written fewer_is fewer_room =
     let there = leaf_removed number nodes lent less list slice place leaf same same_lent at taken
     removed in
-    let step = refuted_step nodes.items waiting.items lent.items place leaf number reason fresh
+    let step = refuted_step nodes.items roomy.opens lent.items place leaf number reason fresh
     any_node roomy.arena there in
+    let order = live_leaf nodes.items leaf (Refuted reason fresh) any_node there.in_nodes
+    (subst (λ (kind : Kind). IsLiveKind kind) (sym (there.kind any_node)) tt) tt
+    ∙ ap (replaced leaf []) roomy.order ∙ replaced-reverse leaf [] live.items in
     let count = length-remove lent.items place there.in_list in
     let shorter = ap length removed in
     let size = ap length (written any_node) ∙ length-set nodes.items leaf
     (with_kind (Refuted reason fresh) (get_or nodes.items leaf any_node)) in
     let few = roomy.few in
     let node_room = roomy.node_room in
-    let open_room = roomy.open_room in
+    let live_room = roomy.live_room in
     record {
       roomy = record {
+        opens = roomy.opens;
         arena = rw (written any_node, removed) step;
+        order = ap live_in (written any_node) ∙ order ∙ ap reverse (sym fewer_is);
         few = omega arith;
         node_room = omega arith;
-        open_room = omega arith;
+        live_room = omega arith;
       };
       tree_is = ap (λ ns. tree_below ns 0) (written any_node)
-          ∙ leaf_tree nodes.items waiting.items lent.items place leaf number
+          ∙ leaf_tree nodes.items roomy.opens lent.items place leaf number
           (refuted_leaf reason fresh) (Refuted reason fresh) any_node roomy.arena there
           (ap (times_lent number) is ∙ once) refl
           ∙ ap (put number (refuted_leaf reason fresh)) is;
     }
 
 pub splits : (number : ℕ) (tree : Tree) (nodes done : RoomyListView Node)
-    (waiting lent less longer : RoomyListView
-    ℕ)
+    (live lent less longer : RoomyListView ℕ)
     (list : List Node) (slice : List ℕ) (place leaf half : ℕ) (test : Test)
-    → IsRoomy nodes waiting lent → tree_below nodes.items 0 ≡ tree → times_lent number tree ≡ 1
+    → IsRoomy nodes live lent → tree_below nodes.items 0 ≡ tree → times_lent number tree ≡ 1
     → list ≡ nodes.items → slice ≡ lent.items
     → IsLeafAt number list slice place (get_or slice place 0)
     → leaf ≡ get_or lent.items place leaf → less.items ≡ remove lent.items place
     → half ≡ length nodes.items - leaf - 1
     → done.items ≡ nodes_split nodes.items leaf test half any_node → done.room + 2 ≡ nodes.room
     → longer.items
-    ≡ (waiting.items ++ suc (length nodes.items) ∷ []) ++ length nodes.items ∷ []
-    → longer.room + 2 ≡ waiting.room
+    ≡ replaced leaf (suc (length nodes.items) ∷ length nodes.items ∷ []) live.items
+    → longer.room + 1 ≡ live.room
     → Returns (put number (branch test true open_leaf open_leaf) tree) done longer less
-splits number tree nodes done waiting lent less longer list slice place leaf half test roomy is once
-    same same_lent at taken removed half_is written done_room pushed wait_room =
+splits number tree nodes done live lent less longer list slice place leaf half test roomy is once
+    same same_lent at taken removed half_is written done_room longer_is live_more =
     let there = leaf_removed number nodes lent less list slice place leaf same same_lent at taken
     removed in
     let within = there.in_nodes in
     let far : half + suc leaf ≡ length nodes.items = omega arith in
-    let step = split_step nodes.items waiting.items lent.items place leaf number test half any_node
+    let step = split_step nodes.items roomy.opens lent.items place leaf number test half any_node
     roomy.arena there far in
+    let new = length nodes.items ∷ suc (length nodes.items) ∷ [] in
+    let order = live_halves nodes.items leaf half test true any_node within far roomy.arena.within
+    (subst (λ (kind : Kind). IsLiveKind kind) (sym (there.kind any_node)) tt)
+    ∙ ap (replaced leaf new) roomy.order ∙ replaced-reverse leaf new live.items in
     let count = length-remove lent.items place there.in_list in
     let shorter = ap length removed in
     let set_size = length-set nodes.items leaf
@@ -258,25 +249,27 @@ splits number tree nodes done waiting lent less longer list slice place leaf hal
     ∷ record { kind = Open; parent = leaf; yes = false } ∷ []) in
     let few = roomy.few in
     let node_room = roomy.node_room in
-    let open_room = roomy.open_room in
+    let live_room = roomy.live_room in
     record {
       roomy = record {
-        arena = rw (written, pushed, removed) step;
+        opens = (roomy.opens ++ suc (length nodes.items) ∷ []) ++ length nodes.items ∷ [];
+        arena = rw (written, removed) step;
+        order = ap live_in written ∙ order ∙ ap reverse (sym longer_is);
         few = omega arith;
         node_room = omega arith;
-        open_room = omega arith;
+        live_room = omega arith;
       };
       tree_is = ap (λ ns. tree_below ns 0) written
-          ∙ split_tree nodes.items waiting.items lent.items place leaf number test half any_node
+          ∙ split_tree nodes.items roomy.opens lent.items place leaf number test half any_node
           roomy.arena there (ap (times_lent number) is ∙ once) far
           ∙ ap (put number (branch test true open_leaf open_leaf)) is;
     }
 
--- the same of the two nodes and the two numbers as they are pushed
+-- the same of the two nodes as they are pushed
 pub splits_pushed : (number : ℕ) (tree : Tree) (nodes written one two : RoomyListView Node)
-    (waiting lent less second first : RoomyListView ℕ) (list : List Node) (slice : List ℕ)
+    (live lent less longer : RoomyListView ℕ) (list : List Node) (slice : List ℕ)
     (place leaf size : ℕ) (test : Test)
-    → IsRoomy nodes waiting lent → tree_below nodes.items 0 ≡ tree → times_lent number tree ≡ 1
+    → IsRoomy nodes live lent → tree_below nodes.items 0 ≡ tree → times_lent number tree ≡ 1
     → list ≡ nodes.items → slice ≡ lent.items
     → IsLeafAt number list slice place (get_or slice place 0)
     → leaf ≡ get_or lent.items place leaf → less.items ≡ remove lent.items place
@@ -287,17 +280,15 @@ pub splits_pushed : (number : ℕ) (tree : Tree) (nodes written one two : RoomyL
     → one.room + 1 ≡ written.room
     → two.items ≡ one.items ++ record { kind = Open; parent = leaf; yes = false } ∷ []
     → two.room + 1 ≡ one.room
-    → second.items ≡ waiting.items ++ (size + 1) ∷ [] → second.room + 1 ≡ waiting.room
-    → first.items ≡ second.items ++ size ∷ [] → first.room + 1 ≡ second.room
-    → Returns (put number (branch test true open_leaf open_leaf) tree) two first less
-splits_pushed number tree nodes written one two waiting lent less second first list slice place leaf
-    size test roomy is once same same_lent at taken removed size_is write_room write_is one_is
-    one_room two_is two_room second_is second_room first_is first_room =
-    let there = leaf_removed number nodes lent less list slice place leaf same same_lent at taken
-    removed in
+    → longer.items ≡ replaced leaf ((size + 1) ∷ size ∷ []) live.items
+    → longer.room + 1 ≡ live.room
+    → Returns (put number (branch test true open_leaf open_leaf) tree) two longer less
+splits_pushed number tree nodes written one two live lent less longer list slice place leaf size
+    test roomy is once same same_lent at taken removed size_is write_room write_is one_is one_room
+    two_is two_room longer_is live_more =
     let half = size - leaf - 1 in
     let node = with_kind (Split test true half) (get_or nodes.items leaf any_node) in
-    splits number tree nodes two waiting lent less first list slice place leaf half test roomy is
+    splits number tree nodes two live lent less longer list slice place leaf half test roomy is
     once same same_lent at taken removed (ap (λ n. n - leaf - 1) size_is)
     (two_is
     ∙ ap (λ ns. ns ++ record { kind = Open; parent = leaf; yes = false } ∷ [])
@@ -307,10 +298,9 @@ splits_pushed number tree nodes written one two waiting lent less second first l
     (record { kind = Open; parent = leaf; yes = true } ∷ [])
     (record { kind = Open; parent = leaf; yes = false } ∷ []))
     (omega arith)
-    (first_is ∙ ap (λ ns. ns ++ size ∷ []) second_is
-    ∙ ap (λ n. (waiting.items ++ n ∷ []) ++ size ∷ []) (add-one size)
-    ∙ ap (λ n. (waiting.items ++ suc n ∷ []) ++ n ∷ []) size_is)
-    (omega arith)
+    (longer_is ∙ ap (λ n. replaced leaf (n ∷ size ∷ []) live.items) (add-one size)
+    ∙ ap (λ n. replaced leaf (suc n ∷ n ∷ []) live.items) size_is)
+    live_more
 
 -- one node is the whole tree
 root_whole : (owns : List ℕ) → length owns ≡ 1
@@ -343,37 +333,39 @@ root_arena = record {
 }
 
 -- one open leaf is an arena
-root_roomy : (nodes : RoomyListView Node) (waiting lent : RoomyListView ℕ)
-    → nodes.items ≡ record { kind = Open; parent = 0; yes = true } ∷ [] → waiting.items ≡ 0 ∷ []
-    → lent.items ≡ [] → IsRoomy nodes waiting lent
-root_roomy nodes waiting lent nodes_are waiting_are none =
+root_roomy : (nodes : RoomyListView Node) (live lent : RoomyListView ℕ)
+    → nodes.items ≡ record { kind = Open; parent = 0; yes = true } ∷ [] → live.items ≡ 0 ∷ []
+    → lent.items ≡ [] → IsRoomy nodes live lent
+root_roomy nodes live lent nodes_are live_are none =
     let root : Node = record { kind = Open; parent = 0; yes = true } in
     let lent_size = ap length none in
     let node_size = ap length nodes_are in
     record {
-      arena = rw (nodes_are, waiting_are, none) root_arena;
+      opens = 0 ∷ [];
+      arena = rw (nodes_are, none) root_arena;
+      order = ap live_in nodes_are ∙ ap reverse (sym live_are);
       few = omega arith;
       node_room = omega arith;
-      open_room = omega arith;
+      live_room = omega arith;
     }
 
 -- one open leaf is an arena, as it is pushed on empty lists
-pub root_pushed : (nodes begun : RoomyListView Node) (waiting started lent : RoomyListView ℕ)
+pub root_pushed : (nodes begun : RoomyListView Node) (live started lent : RoomyListView ℕ)
     (none : List Node) (empty : List ℕ)
     → nodes.items ≡ begun.items ++ record { kind = Open; parent = 0; yes = true } ∷ []
-    → begun.items ≡ none → none ≡ [] → waiting.items ≡ started.items ++ 0 ∷ []
-    → started.items ≡ empty → empty ≡ [] → lent.items ≡ [] → IsRoomy nodes waiting lent
-root_pushed nodes begun waiting started lent none empty pushed begun_is none_is waits started_is
+    → begun.items ≡ none → none ≡ [] → live.items ≡ started.items ++ 0 ∷ []
+    → started.items ≡ empty → empty ≡ [] → lent.items ≡ [] → IsRoomy nodes live lent
+root_pushed nodes begun live started lent none empty pushed begun_is none_is waits started_is
     empty_is no_lent =
-    root_roomy nodes waiting lent
+    root_roomy nodes live lent
     (pushed ∙ ap (λ list. list ++ record { kind = Open; parent = 0; yes = true } ∷ [])
     (begun_is ∙ none_is))
     (waits ∙ ap (λ list. list ++ 0 ∷ []) (started_is ∙ empty_is)) no_lent
 
 -- a leaf that goes off the end of the list of lent ones is open
-pub record OpensLast (opened : Tree) (nodes : RoomyListView Node) (waiting lent : RoomyListView ℕ) :
+pub record OpensLast (opened : Tree) (nodes : RoomyListView Node) (live lent : RoomyListView ℕ) :
     Type 0 where
-  pub roomy : IsRoomy nodes waiting lent
+  pub roomy : IsRoomy nodes live lent
   pub same : all_opened (tree_below nodes.items 0) ≡ opened
 
 pub lent_kind : (kind : Kind) → 1 ≤ lent_mark kind → IsLeafKind kind
@@ -382,6 +374,12 @@ lent_kind (Lent number) marked = tt
 lent_kind (Refuted reason fresh) marked = tt
 lent_kind (Split test fresh half) marked = absurd (omega arith)
 
+lent_live : (kind : Kind) → 1 ≤ lent_mark kind → IsLiveKind kind
+lent_live Open marked = tt
+lent_live (Lent number) marked = tt
+lent_live (Refuted reason fresh) marked = absurd (omega arith)
+lent_live (Split test fresh half) marked = absurd (omega arith)
+
 lent_marks : (kind : Kind) → 1 ≤ lent_mark kind → (lent_mark kind ≡ 1) × (open_mark kind ≡ 0)
 lent_marks Open marked = absurd (omega arith)
 lent_marks (Lent number) marked = (refl, refl)
@@ -389,10 +387,10 @@ lent_marks (Refuted reason fresh) marked = absurd (omega arith)
 lent_marks (Split test fresh half) marked = absurd (omega arith)
 
 -- it stands among the nodes, and is lent
-pub last_lent : (nodes : RoomyListView Node) (waiting lent less : RoomyListView ℕ) (leaf : ℕ)
-    → IsRoomy nodes waiting lent → lent.items ≡ less.items ++ leaf ∷ []
+pub last_lent : (nodes : RoomyListView Node) (live lent less : RoomyListView ℕ) (leaf : ℕ)
+    → IsRoomy nodes live lent → lent.items ≡ less.items ++ leaf ∷ []
     → (leaf < length nodes.items) × (1 ≤ lent_mark (get_or nodes.items leaf any_node).kind)
-last_lent nodes waiting lent less leaf roomy popped =
+last_lent nodes live lent less leaf roomy popped =
     let listed = subst (λ (ls : List ℕ). IsListed (marks lent_mark nodes.items) ls) popped
     roomy.arena.lent_listed in
     let count = times_in-push leaf leaf less.items in
@@ -407,16 +405,14 @@ last_lent nodes waiting lent less leaf roomy popped =
     (within, omega arith)
 
 pub opens_last : (opened : Tree) (nodes done : RoomyListView Node)
-    (waiting lent less longer : RoomyListView ℕ)
-    (leaf : ℕ) → IsRoomy nodes waiting lent → all_opened (tree_below nodes.items 0) ≡ opened
+    (live lent less : RoomyListView ℕ)
+    (leaf : ℕ) → IsRoomy nodes live lent → all_opened (tree_below nodes.items 0) ≡ opened
     → lent.items ≡ less.items ++ leaf ∷ [] → done.room ≡ nodes.room
     → ((default : Node) → done.items
     ≡ set nodes.items leaf (with_kind Open (get_or nodes.items leaf default)))
-    → longer.items ≡ waiting.items ++ leaf ∷ [] → longer.room + 1 ≡ waiting.room
-    → OpensLast opened done longer less
-opens_last opened nodes done waiting lent less longer leaf roomy same popped done_room written
-    pushed wait_room =
-    let last = last_lent nodes waiting lent less leaf roomy popped in
+    → OpensLast opened done live less
+opens_last opened nodes done live lent less leaf roomy same popped done_room written =
+    let last = last_lent nodes live lent less leaf roomy popped in
     let within = last.0 in
     let marks_are = lent_marks (get_or nodes.items leaf any_node).kind last.1 in
     let node = with_kind Open (get_or nodes.items leaf any_node) in
@@ -425,10 +421,13 @@ opens_last opened nodes done waiting lent less longer leaf roomy same popped don
     let was_lent = marked_at lent_mark nodes.items leaf any_node within ∙ marks_are.0 in
     let was_open = marked_at open_mark nodes.items leaf any_node within ∙ marks_are.1 in
     let arena = roomy.arena in
-    let step = arena_leaf nodes.items waiting.items lent.items (waiting.items ++ leaf ∷ [])
+    let order = live_leaf nodes.items leaf Open any_node within
+    (lent_live (get_or nodes.items leaf any_node).kind last.1) tt
+    ∙ replaced-self leaf (live_in nodes.items) ∙ roomy.order in
+    let step = arena_leaf nodes.items roomy.opens lent.items (roomy.opens ++ leaf ∷ [])
     less.items leaf Open any_node arena within
     (lent_kind (get_or nodes.items leaf any_node).kind last.1) tt
-    (listed_added (marks open_mark nodes.items) waiting.items leaf arena.open_listed
+    (listed_added (marks open_mark nodes.items) roomy.opens leaf arena.open_listed
     (omega arith) was_open)
     (listed_taken (marks lent_mark nodes.items) lent.items less.items leaf arena.lent_listed
     (omega arith) was_lent
@@ -439,13 +438,15 @@ opens_last opened nodes done waiting lent less longer leaf roomy same popped don
     let shorter = ap length popped ∙ length-append less.items (leaf ∷ []) in
     let few = roomy.few in
     let node_room = roomy.node_room in
-    let open_room = roomy.open_room in
+    let live_room = roomy.live_room in
     record {
       roomy = record {
-        arena = rw (written any_node, pushed) step;
+        opens = roomy.opens ++ leaf ∷ [];
+        arena = rw (written any_node) step;
+        order = ap live_in (written any_node) ∙ order;
         few = omega arith;
         node_room = omega arith;
-        open_room = omega arith;
+        live_room = omega arith;
       };
       same = ap (λ ns. all_opened (tree_below ns 0)) (written any_node)
           ∙ sym (get_or-mapped all_opened refl (shapes (set nodes.items leaf node)) 0)
@@ -464,10 +465,10 @@ all_opened-none (branch test fresh yes_half no_half) none =
     (all_opened-none yes_half (omega arith))
     ∙ ap (λ half. branch test fresh yes_half half) (all_opened-none no_half (omega arith))
 
-pub opens_all : (opened : Tree) (nodes : RoomyListView Node) (waiting lent : RoomyListView ℕ)
-    → OpensLast opened nodes waiting lent → length lent.items ≡ 0
+pub opens_all : (opened : Tree) (nodes : RoomyListView Node) (live lent : RoomyListView ℕ)
+    → OpensLast opened nodes live lent → length lent.items ≡ 0
     → tree_below nodes.items 0 ≡ opened
-opens_all opened nodes waiting lent opens none =
+opens_all opened nodes live lent opens none =
     sym (all_opened-none (tree_below nodes.items 0)
-    (arena-lent nodes.items waiting.items lent.items opens.roomy.arena ∙ none))
+    (arena-lent nodes.items opens.roomy.opens lent.items opens.roomy.arena ∙ none))
     ∙ opens.same

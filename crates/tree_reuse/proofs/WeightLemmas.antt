@@ -1,16 +1,13 @@
 -- The weights of an arena: each node stands in the tree once, so what is counted of the tree is
 -- counted of the list.
-use Rattle.std.proofs.Common.{◌≡◌, ℕ, zero, suc, ◌+◌, ◌<◌, ◌≤◌, Bool, ◌||◌}
-use Rattle.std.proofs.Common.{nat_lt}
-use Rattle.std.proofs.Common.{List, [], ◌∷◌, ◌++◌, length, map, get_or, set, refl, sym, ap}
-use Rattle.std.proofs.Common.{◌∙◌}
-use Rattle.std.proofs.Common.{subst, arith, length-append}
+use Rattle.std.proofs.Common.{◌≡◌, ℕ, zero, suc, ◌+◌, ◌<◌, ◌≤◌, Bool, ◌||◌, nat_lt, List, [], ◌∷◌}
+use Rattle.std.proofs.Common.{◌++◌, length, map, get_or, set, refl, sym, ap, ◌∙◌, subst, arith}
+use Rattle.std.proofs.Common.{length-append}
 use Rattle.std.proofs.lemmas.List.{get_or_append_left, length-set, length-map}
 use Rattle.league_core.specs.declared.zone.Test.{Test}
 use Rattle.league_core.specs.search.Trees.{Tree, open_leaf, lent_leaf, refuted_leaf, branch}
 use Rattle.league_core.specs.search.Trees.{node_count, has_open}
 use Rattle.league_core.specs.inside.Lending.{lent_count, times_lent}
-use Rattle.league_core.proofs.LendingLemmas.{some_of_sum}
 use Rattle.tree_reuse.specs.declared.node.Kind.{Kind}
 use Rattle.tree_reuse.specs.declared.node.Kind.TheVariants.{Open, Lent, Refuted, Split}
 use Rattle.tree_reuse.specs.declared.node.Node.{Node}
@@ -19,6 +16,8 @@ use Rattle.tree_reuse.specs.inside.Arena.{weights, IsWhole, AreHalvesWithin, All
 use Rattle.tree_reuse.specs.inside.Arena.{open_mark, lent_mark, number_mark, node_mark, marks}
 use Rattle.tree_reuse.proofs.MarkLemmas.{total-append, total-set}
 use Rattle.tree_reuse.proofs.ShapeLemmas.{length-shapes}
+use Rattle.league_core.proofs.plain.Numbers.{some_of_sum}
+use Rattle.league_core.proofs.plain.Slots.{at_end}
 
 pub length-weights : (owns : List ℕ) (nodes : List Node) → length owns ≡ length nodes
     → length (weights owns nodes) ≡ length nodes
@@ -104,14 +103,6 @@ weights-longer (own ∷ owns) (node ∷ nodes) first second a b long within one 
     (weight_over-within own node.kind (weights owns nodes) (a ∷ b ∷ [])
     (subst (λ (n : ℕ). AreHalvesWithin node.kind n) (sym count) within.0))
 
--- what stands at the end of a list
-at_end : (ws : List ℕ) (a b size : ℕ) → size ≡ length ws
-    → (get_or (ws ++ a ∷ b ∷ []) size 0 ≡ a) × (get_or (ws ++ a ∷ b ∷ []) (suc size) 0 ≡ b)
-at_end [] a b zero is = (refl, refl)
-at_end [] a b (suc size) is = absurd (omega arith)
-at_end (w ∷ ws) a b zero is = absurd (omega arith)
-at_end (w ∷ ws) a b (suc size) is = at_end ws a b size (omega arith)
-
 -- a split over two new leaves at the end weighs what the leaf weighed, and the two
 weights-split : (owns : List ℕ) (nodes : List Node) (at : ℕ) (written default first second : Node)
     (test : Test) (fresh : Bool) (half a b : ℕ) → at < length nodes → length owns ≡ length nodes
@@ -128,7 +119,7 @@ weights-split (own ∷ owns) (node ∷ nodes) zero written default first second 
     within long all leaf is far one two =
     let same : length owns ≡ length nodes = omega arith in
     let count = length-weights owns nodes same in
-    let ends = at_end (weights owns nodes) a b half (omega arith) in
+    let ends = at_end (weights owns nodes) a b 0 half (omega arith) in
     ap (λ ws. weight_over own written.kind ws ∷ ws)
     (weights-longer owns nodes first second a b same all.1 one two)
     ∙ ap (λ kind. weight_over own kind (weights owns nodes ++ a ∷ b ∷ [])

@@ -1,10 +1,12 @@
 //! Looks at the nodes of an arena, and a write of one.
 
-ghost use Rattle.std.specs.Prelude.{◌≡◌, ◌<◌, length, slice_index, slice_index_or};
-ghost use Rattle.std.specs.Prelude.{slice_set, if◌then◌else◌};
+ghost use Rattle.std.specs.Prelude.{◌≡◌, ◌<◌, ◌≤◌, ◌+◌, ◌^◌, ℕ, [], ◌∷◌, length, slice_index};
+ghost use Rattle.std.specs.Prelude.{slice_index_or, slice_set, if◌then◌else◌};
 ghost use Rattle.tree_reuse.specs.declared.node.Node.{Node};
 ghost use Rattle.tree_reuse.specs.inside.Arena.{with_kind, IsListed, marks, lent_mark, number_mark};
-ghost use Rattle.tree_reuse.specs.inside.Arena.{total, IsLeafAt};
+ghost use Rattle.tree_reuse.specs.inside.Arena.{total, IsLeafAt, open_mark, times_in};
+ghost use Rattle.tree_reuse.specs.inside.Arena.{opens_among, IsLastOpen};
+ghost use Rattle.tree_reuse.specs.inside.Order.{replaced};
 
 use crate::node::{Kind, Node};
 use league_core::RoomyList;
@@ -45,4 +47,71 @@ pub fn find(nodes: &[Node], lent: &[u32], number: u64) -> usize
         }
     }
     unreachable!()
+}
+
+fn is_open(kind: Kind) -> bool
+    ensures { open_mark kind ≡ (if result then 1 else 0) }
+{
+    match kind {
+        Kind::Open => true,
+        Kind::Lent(_) | Kind::Refuted(..) | Kind::Split(..) => false,
+    }
+}
+
+/// Where the last open leaf stands in a list of leaves, one of which is open.
+pub fn last_open(nodes: &[Node], list: &[u32]) -> usize
+    requires within { (place : ℕ) → place < length list.now
+        → slice_index_or list.now place 0 < length nodes.now }
+    requires some { 0 < opens_among nodes.now list.now }
+    ensures { IsLastOpen nodes.now list.now result }
+{
+    let mut place = list.len();
+    while place > 0 {
+        place -= 1;
+        let node = &nodes[list[place] as usize];
+        if is_open(node.kind) {
+            return place;
+        }
+    }
+    unreachable!()
+}
+
+// Where a leaf stands in a list that has it, the last place first.
+fn place_of(list: &[u32], leaf: u32) -> usize
+    requires some { 1 ≤ times_in leaf list.now }
+    ensures in_range { result < length list.now }
+    ensures is { slice_index_or list.now result 0 ≡ leaf }
+{
+    let mut place = list.len();
+    while place > 0 {
+        place -= 1;
+        if list[place] == leaf {
+            return place;
+        }
+    }
+    unreachable!()
+}
+
+/// Takes a leaf off a list that has it once.
+pub fn take_leaf(list: &mut RoomyList<u32>, leaf: u32)
+    requires once { times_in leaf list.old.items ≡ 1 }
+    ensures items { list.new.items ≡ replaced leaf [] list.old.items }
+    ensures room { list.new.room ≡ list.old.room + 1 }
+{
+    let place = place_of(list.as_slice(), leaf);
+    let _leaf = list.remove(place);
+}
+
+/// Puts two numbers that follow one another, the first one last, in place of a leaf in a list that
+/// has it once.
+pub fn split_leaf(list: &mut RoomyList<u32>, leaf: u32, first: u32)
+    requires once { times_in leaf list.old.items ≡ 1 }
+    requires room { 0 < list.old.room }
+    requires fits { first + 1 < 2 ^ 32 }
+    ensures items { list.new.items ≡ replaced leaf ((first + 1) ∷ first ∷ []) list.old.items }
+    ensures room { list.new.room + 1 ≡ list.old.room }
+{
+    let place = place_of(list.as_slice(), leaf);
+    let _leaf = list.replace(place, first + 1);
+    list.insert(place + 1, first);
 }

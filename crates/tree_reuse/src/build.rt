@@ -39,13 +39,13 @@ fn is_split(node: TreeNode) -> bool
     }
 }
 
-/// The nodes so far, the places that wait for nodes of the list, the next one last, and the open
-/// and the lent leaves.
+/// The nodes so far, the places that wait for nodes of the list, the next one last, the leaves that
+/// are open or lent, and those that are lent.
 #[derive(Drop)]
 pub struct Build {
     pub nodes: RoomyList<Node>,
     pub places: RoomyList<u32>,
-    pub waiting: RoomyList<u32>,
+    pub live: RoomyList<u32>,
     pub lent: RoomyList<u32>,
 }
 
@@ -65,17 +65,18 @@ impl Build {
         let mut places = RoomyList::new(alloc);
         places.reserve(1)?;
         places.push(0);
-        let waiting = RoomyList::new(alloc);
+        let live = RoomyList::new(alloc);
         let lent = RoomyList::new(alloc);
         Ok(Build {
             nodes,
             places,
-            waiting,
+            live,
             lent,
         })
     }
 
-    /// What is made of the list of a tree. The first open leaf of the list is on top of the stack.
+    /// What is made of the list of a tree. Of the leaves that are open or lent the
+    /// first one of the list comes last.
     pub fn of_list(alloc: Global, list: &[TreeNode]) -> Result<Build, OutOfMemory>
         requires few { length list.now ≤ most_nodes }
         requires some { IsTrue (is_some (tree_of list.now)) }
@@ -85,19 +86,19 @@ impl Build {
         for node in list {
             build.take(*node)?;
         }
-        // No place is left over: their stack takes the open leaves, the last one first.
-        build.places.reserve(build.waiting.len())?;
-        turn_over(&mut build.waiting, &mut build.places);
+        // No place is left over: their list takes the leaves, the last one first.
+        build.places.reserve(build.live.len())?;
+        turn_over(&mut build.live, &mut build.places);
         let Build {
             nodes,
-            places: waiting,
-            waiting: places,
+            places: live,
+            live: places,
             lent,
         } = build;
         Ok(Build {
             nodes,
             places,
-            waiting,
+            live,
             lent,
         })
     }
@@ -115,10 +116,12 @@ impl Build {
         write(&mut self.nodes, place, kind(node, size - place - 1));
         match node {
             TreeNode::Open => {
-                self.waiting.reserve(1)?;
-                self.waiting.push(place);
+                self.live.reserve(1)?;
+                self.live.push(place);
             }
             TreeNode::Lent(_) => {
+                self.live.reserve(1)?;
+                self.live.push(place);
                 self.lent.reserve(1)?;
                 self.lent.push(place);
             }

@@ -1,4 +1,5 @@
-//! The tree in an arena: one list of nodes, a stack of the open ones, and the lent ones.
+//! The tree in an arena: a list of nodes, one of the leaves that are open or lent, in order, and
+//! one of those that are lent.
 
 ghost use Rattle.std.specs.Prelude.{◌≡◌, ◌≤◌, ◌+◌, ◌↔◌, true, length, IsTrue, IfOk};
 ghost use Rattle.std.specs.Prelude.{IfErr, OnOk, OnErr};
@@ -8,10 +9,10 @@ ghost use Rattle.tree_reuse.specs.inside.Stops.{WhyNoTree};
 ghost use Rattle.league_core.specs.search.Trees.{open_leaf, refuted_leaf, branch, node_count};
 ghost use Rattle.league_core.specs.search.Trees.{has_open, is_refuted, preorder, zones_of};
 ghost use Rattle.league_core.specs.inside.Lending.{times_lent, lent_count, put, all_opened};
-ghost use Rattle.tree_reuse.specs.inside.Calls.{Lending, literals_of, most_nodes};
+ghost use Rattle.tree_reuse.specs.inside.Calls.{IsFirstLent, Lending, literals_of, most_nodes};
 ghost use Rattle.tree_reuse.specs.inside.Arena.{IsPathTo};
 
-use crate::arena::{find, write};
+use crate::arena::{find, last_open, split_leaf, take_leaf, write};
 use crate::build::{Build, is_tree};
 use crate::last_path::move_to;
 use crate::list::list_nodes;
@@ -30,7 +31,8 @@ pub const MOST_NODES: u32 = 2_000_000_000;
 pub struct Tree {
     alloc: Global,
     nodes: RoomyList<Node>,
-    waiting: RoomyList<u32>,
+    // The leaves that are open or lent, the first one last.
+    live: RoomyList<u32>,
     lent: RoomyList<u32>,
     // The way from the root to a node, the one whose zone was returned last, and a list as scratch
     // space while it is made.
@@ -53,7 +55,7 @@ impl Model for Tree {
     ghost view = { λ tree. tree_below tree.nodes.items 0 };
 
     ghost invariant = { λ tree.
-        KeepsPath tree.nodes tree.waiting tree.lent tree.zone_box tree.last };
+        KeepsPath tree.nodes tree.live tree.lent tree.zone_box tree.last };
 }
 
 impl Tree {
@@ -62,22 +64,22 @@ impl Tree {
         ensures { IfOk result (λ tree. tree ≡ open_leaf) }
     {
         let mut nodes = RoomyList::new(alloc);
-        let mut waiting = RoomyList::new(alloc);
+        let mut live = RoomyList::new(alloc);
         nodes.reserve(1)?;
-        waiting.reserve(1)?;
+        live.reserve(1)?;
         nodes.push(Node {
             kind: Kind::Open,
             parent: 0,
             yes: true,
         });
-        waiting.push(0);
+        live.push(0);
         let lent = RoomyList::new(alloc);
         let zone_box = Listing::new(alloc);
         let hand = Listing::new(alloc);
         Ok(Tree {
             alloc,
             nodes,
-            waiting,
+            live,
             lent,
             zone_box,
             last: 0,
@@ -96,7 +98,7 @@ impl Tree {
     pub fn has_open(&self) -> bool
         ensures { result ≡ has_open self.now }
     {
-        self.waiting.len() > 0
+        self.live.len() > self.lent.len()
     }
 
     /// It is one open leaf.
@@ -111,12 +113,12 @@ impl Tree {
     pub fn is_refuted(&self) -> bool
         ensures { result ≡ is_refuted self.now }
     {
-        self.waiting.len() == 0 && self.lent.len() == 0
+        self.live.len() == 0
     }
 
-    /// Lends an open leaf under a number that is not lent, and returns its zone; `None` if no leaf
-    /// is open. It takes the room that a split of this leaf needs; if memory runs out the tree is
-    /// as before. The leaf is the last one that was opened, of two halves the yes half.
+    /// Lends the first open leaf, depth first, the yes half first, under a number that is not lent,
+    /// and returns its zone; `None` if no leaf is open. It takes the room that a split of this leaf
+    /// needs; if memory runs out the tree is as before.
     pub fn lend(&mut self, number: u64) -> Result<Option<Zone>, OutOfMemory>
         requires free { times_lent number self.old ≡ 0 }
         requires few { node_count self.old + lent_count self.old ≤ most_nodes }
@@ -126,7 +128,7 @@ impl Tree {
         if !self.has_open() {
             return Ok(None);
         }
-        self.lend_last(number)?;
+        self.lend_first(number)?;
         match self.zone(number) {
             Ok(literals) => Ok(Some(Zone { literals })),
             Err(_) => {
@@ -136,21 +138,23 @@ impl Tree {
         }
     }
 
-    // Lends the leaf on top of the open ones.
-    fn lend_last(&mut self, number: u64) -> Result<(), OutOfMemory>
+    // Lends the first open leaf.
+    fn lend_first(&mut self, number: u64) -> Result<(), OutOfMemory>
         requires free { times_lent number self.old ≡ 0 }
         requires few { node_count self.old + lent_count self.old ≤ most_nodes }
         requires some { has_open self.old ≡ true }
         ensures ok { OnOk result (put number open_leaf self.new ≡ self.old) }
         ensures once { OnOk result (times_lent number self.new ≡ 1) }
+        ensures first { OnOk result (IsFirstLent number self.new) }
         ensures err { OnErr result (self.new ≡ self.old) }
     {
         let _ = &self.nodes;
-        let more = 2 * (self.lent.len() + 1);
+        let many = self.lent.len() + 1;
         self.lent.reserve(1)?;
-        self.nodes.reserve(more)?;
-        self.waiting.reserve(more)?;
-        let leaf = self.waiting.pop();
+        self.nodes.reserve(2 * many)?;
+        self.live.reserve(many)?;
+        let place = last_open(self.nodes.as_slice(), self.live.as_slice());
+        let leaf = self.live.as_slice()[place];
         write(&mut self.nodes, leaf, Kind::Lent(number));
         self.lent.push(leaf);
         Ok(())
@@ -183,7 +187,6 @@ impl Tree {
         let place = find(self.nodes.as_slice(), self.lent.as_slice(), number);
         let leaf = self.lent.remove(place);
         write(&mut self.nodes, leaf, Kind::Open);
-        self.waiting.push(leaf);
     }
 
     /// The leaf that is lent under the number is refuted, and new.
@@ -194,6 +197,7 @@ impl Tree {
         let place = find(self.nodes.as_slice(), self.lent.as_slice(), number);
         let leaf = self.lent.remove(place);
         write(&mut self.nodes, leaf, Kind::Refuted(reason, true));
+        take_leaf(&mut self.live, leaf);
     }
 
     /// The leaf that is lent under the number is a new split with two open leaves. It takes no
@@ -220,8 +224,7 @@ impl Tree {
             parent: leaf,
             yes: false,
         });
-        self.waiting.push(size + 1);
-        self.waiting.push(size);
+        split_leaf(&mut self.live, leaf, size);
     }
 
     /// Each lent leaf is open again.
@@ -231,7 +234,6 @@ impl Tree {
         while self.lent.len() > 0 {
             let leaf = self.lent.pop();
             write(&mut self.nodes, leaf, Kind::Open);
-            self.waiting.push(leaf);
         }
     }
 
@@ -265,13 +267,13 @@ impl Tree {
         ensures { IfOk result (λ tree. preorder tree ≡ list.now) }
     {
         let mut build = Build::of_list(alloc, list)?;
-        let more = 2 * build.lent.len();
-        build.nodes.reserve(more)?;
-        build.waiting.reserve(more)?;
+        let many = build.lent.len();
+        build.nodes.reserve(2 * many)?;
+        build.live.reserve(many)?;
         let Build {
             nodes,
             places: _,
-            waiting,
+            live,
             lent,
         } = build;
         let zone_box = Listing::new(alloc);
@@ -279,7 +281,7 @@ impl Tree {
         Ok(Tree {
             alloc,
             nodes,
-            waiting,
+            live,
             lent,
             zone_box,
             last: 0,

@@ -1,7 +1,7 @@
 -- The questions about a sheet, club by club and line by line: each one is about the sheet, and they
 -- are few.
-use Rattle.std.proofs.Common.{◌≡◌, ℕ, zero, suc, ◌+◌, ◌*◌, ◌<◌, ◌≤◌, true, List, [], ◌∷◌}
-use Rattle.std.proofs.Common.{◌++◌, length, refl, ap, sym, ◌∙◌, arith, append_assoc, length-append}
+use Rattle.std.proofs.Common.{◌≡◌, ℕ, zero, suc, ◌+◌, ◌*◌, ◌<◌, ◌≤◌, true, List, [], ◌∷◌, ◌++◌}
+use Rattle.std.proofs.Common.{length, refl, ap, sym, ◌∙◌, arith, append_assoc, length-append}
 use Rattle.std.proofs.Common.{nat_lt, nat_le}
 use Rattle.std.specs.Prelude.{All}
 use Rattle.std.specs.List.{flat_map, list_all, range_with_len}
@@ -14,8 +14,8 @@ use Rattle.league_core.specs.declared.question.Claim.TheVariants.{Inside, Outsid
 use Rattle.league_core.specs.declared.question.Question.{Question}
 use Rattle.league_core.specs.game.Sheets.{IsWithinLimits, is_line}
 use Rattle.league_core.specs.game.Questions.{IsQuestionOf, full_question}
-use Rattle.league_core.proofs.ClubCountLemmas.{range_with_len-suc}
 use Rattle.verdict_run.specs.inside.AskedQuestions.{both_questions, questions_of_line, questions_of}
+use Rattle.league_core.proofs.plain.Runs.{range_with_len-suc}
 
 -- two questions about the next club come after those so far
 pub line-push : (before : List Question) (line club : ℕ)

@@ -1,12 +1,11 @@
 -- If some fixture has several scores left, some split is proper and due: by a rival that is not
 -- marked, else by an outcome, else by goals.
-use Rattle.std.proofs.Common.{◌≡◌, ◌⊎◌, inl, inr, ℕ, zero, suc, ◌<◌, ◌≤◌, Bool, true, false}
-use Rattle.std.proofs.Common.{not, ◌&&◌, ◌||◌, ◌==◌, nat_lt, nat_le, List, [], ◌∷◌, length, get_or}
-use Rattle.std.proofs.Common.{refl, sym, ap, ◌∙◌, subst, arith}
+use Rattle.std.proofs.Common.{◌≡◌, ◌⊎◌, inl, inr, ℕ, zero, suc, ◌<◌, ◌≤◌, Bool, true, false, not}
+use Rattle.std.proofs.Common.{◌&&◌, ◌||◌, ◌==◌, nat_lt, nat_le, List, [], ◌∷◌, length, get_or, refl}
+use Rattle.std.proofs.Common.{sym, ap, ◌∙◌, arith}
 use Rattle.std.specs.List.{list_all}
-use Rattle.std.proofs.lemmas.Bool.{false≢true, true≢false, and_from, cases_Bool}
-use Rattle.std.proofs.lemmas.Bool.{or_right, ltb-true, ltb-false}
-use Rattle.std.proofs.lemmas.Bool.{lt-ltb, le-leb}
+use Rattle.std.proofs.lemmas.Bool.{false≢true, true≢false, and_from, cases_Bool, or_right, ltb-true}
+use Rattle.std.proofs.lemmas.Bool.{ltb-false, lt-ltb}
 use Rattle.std.proofs.lemmas.Bool.Decides.{nat_tests}
 use Rattle.league_core.specs.declared.sheet.Sheet.{Sheet}
 use Rattle.league_core.specs.declared.season.Score.{Score}
@@ -22,55 +21,16 @@ use Rattle.league_core.specs.search.Options.{options_in, has_score, has_option, 
 use Rattle.league_core.specs.search.Options.{has_finish, is_single, is_home_win, is_draw}
 use Rattle.league_core.specs.search.Options.{is_away_win, same_outcome, has_one_outcome}
 use Rattle.league_core.specs.search.Splits.{is_proper, is_due, are_all_marked, are_outcomes_fixed}
-use Rattle.league_core.proofs.PlainLemmas.{list_all-at}
 use Rattle.league_core.proofs.OptionLemmas.{length-options_from, has_score-first}
 use Rattle.branch_rules.specs.inside.Choices.{IsDivided}
 use Rattle.branch_rules.proofs.SplitLemmas.{home_is_proper, draw_is_proper, home_most_is_proper}
 use Rattle.branch_rules.proofs.SplitLemmas.{away_most_is_proper}
 use Rattle.branch_rules.proofs.RivalLemmas.{all_are_marked}
+use Rattle.league_core.proofs.plain.Lists.{list_all-at, list_all-fails}
+use Rattle.league_core.proofs.plain.Numbers.{bound_between}
+use Rattle.league_core.proofs.plain.Runs.{some_below}
 
 -- ---- plain facts
-
--- some element fails if not all pass
-some_fails : {X : Type 0} (test : X → Bool) (xs : List X) (d : X) → list_all test xs ≡ false
-    → (k : ℕ) × (k < length xs) × (test (get_or xs k d) ≡ false)
-some_fails test [] d fails = absurd (true≢false fails)
-some_fails test (x ∷ xs) d fails =
-    elim (cases_Bool (test x)) as
-    (λ _. (k : ℕ) × (k < length (x ∷ xs)) × (test (get_or (x ∷ xs) k d) ≡ false)) [
-      | inl passed ↦
-          let rest = some_fails test xs d (others (test x) (list_all test xs) passed fails) in
-          (suc rest.0, omega (arith, rest.1), rest.2)
-      | inr failed ↦ (0, omega arith, failed)
-    ]
-  where
-    others : (a b : Bool) → a ≡ true → (a && b) ≡ false → b ≡ false
-    others true b is fails = fails
-    others false b is fails = absurd (false≢true is)
-
--- some number below the bound passes, or none does
-some_below : (test : ℕ → Bool) (bound : ℕ)
-    → ((k : ℕ) × (test k ≡ true)) ⊎ ((k : ℕ) → k < bound → test k ≡ false)
-some_below test zero = inr (λ k below. absurd (omega arith))
-some_below test (suc bound) =
-    elim (cases_Bool (test bound)) [
-      | inl passed ↦ inl (bound, passed)
-      | inr failed ↦ elim (some_below test bound) [
-        | inl found ↦ inl found
-        | inr none ↦ inr (λ k below. last k failed none below)
-      ]
-    ]
-  where
-    last : (k : ℕ) → test bound ≡ false → ((j : ℕ) → j < bound → test j ≡ false) → k < suc bound
-        → test k ≡ false
-    last k failed none below =
-        elim (cases_Bool (nat_lt k bound)) as (λ _. test k ≡ false) [
-          | inl small ↦ none k (ltb-true k bound small)
-          | inr large ↦
-              let past = ltb-false k bound large in
-              let same : bound ≡ k = omega arith in
-              subst (λ (n : ℕ). test n ≡ false) same failed
-        ]
 
 -- ---- rivals
 
@@ -133,7 +93,7 @@ pub record AreApart (options : List Score) (same : Score → Score → Bool) : T
 first_and_other : (score : Score) (options : List Score) (same : Score → Score → Bool)
     → list_all (same score) options ≡ false → AreApart (score ∷ options) same
 first_and_other score options same fails =
-    let found = some_fails (same score) options score fails in
+    let found = list_all-fails (same score) options score fails in
     record {
       score = score;
       other = get_or options found.0 score;
@@ -225,24 +185,6 @@ outcome_divides options two =
     ]
 
 -- ---- goals
-
--- two different numbers are told apart by the smaller as a bound
-bound_between : (a b : ℕ) → (a == b) ≡ false
-    → (most : ℕ) × (((nat_le a most ≡ true) × (nat_le b most ≡ false))
-    ⊎ ((nat_le a most ≡ false) × (nat_le b most ≡ true)))
-bound_between a b differ =
-    elim (cases_Bool (nat_lt a b)) [
-      | inl less ↦ (a, inl (le-leb a a (omega arith), above a b (ltb-true a b less)))
-      | inr more ↦
-          let most = ltb-false a b more in
-          (b, inr (above b a (strictly a b differ most), le-leb b b (omega arith)))
-    ]
-  where
-    above : (m n : ℕ) → m < n → nat_le n m ≡ false
-    above m n h = grind (arith, nat_tests)
-
-    strictly : (m n : ℕ) → (m == n) ≡ false → n ≤ m → n < m
-    strictly m n other h = grind (arith, nat_tests)
 
 -- a test of goals divides the options
 pub record IsGoalDivided (options : List Score) (side : Score → ℕ) : Type 0 where
@@ -351,11 +293,11 @@ score_due sheet season question zone of_sheet some marked several =
     elim (cases_Bool (are_outcomes_fixed sheet season zone)) as
     (λ _. IsDueTest sheet season question zone) [
       | inr unfixed ↦
-          let found = some_fails has_one_outcome all [] unfixed in
+          let found = list_all-fails has_one_outcome all [] unfixed in
           outcome_due sheet season question zone found.0 of_sheet some marked unfixed
           (omega (arith, found.1, long)) found.2
       | inl fixed ↦
-          let found = some_fails has_one_score all [] several in
+          let found = list_all-fails has_one_score all [] several in
           goals_due sheet season question zone found.0 of_sheet some marked fixed
           (omega (arith, found.1, long)) (list_all-at has_option all found.0 [] found.1 some)
           found.2

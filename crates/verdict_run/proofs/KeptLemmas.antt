@@ -1,9 +1,9 @@
 -- What an answer says comes from what the pool keeps: of one question, of the two of a row, and of
 -- all rows so far.
-use Rattle.std.proofs.Common.{◌≡◌, ◌≢◌, ℕ, zero, suc, ◌+◌, ◌*◌, Bool, true, false, List, []}
-use Rattle.std.proofs.Common.{◌∷◌, ◌++◌, length, Option, Some, None, refl, sym, ap, ◌∙◌, subst}
-use Rattle.std.proofs.Common.{inl, inr, ◌||◌, ◌==◌, if◌then◌else◌, ◌⊎◌}
-use Rattle.std.specs.Prelude.{is_some, Result, Ok, Err, IfOk}
+use Rattle.std.proofs.Common.{◌≡◌, ◌≢◌, ℕ, ◌+◌, ◌*◌, Bool, true, false, List, [], ◌∷◌, ◌++◌, length}
+use Rattle.std.proofs.Common.{Option, Some, None, refl, sym, ap, ◌∙◌, subst, inl, inr, ◌||◌, ◌==◌}
+use Rattle.std.proofs.Common.{if◌then◌else◌}
+use Rattle.std.specs.Prelude.{is_some}
 use Rattle.std.specs.List.{slice_get}
 use Rattle.std.proofs.lemmas.Bool.{false≢true}
 use Rattle.std.proofs.lemmas.Option.{same_Some, none-some}
@@ -31,6 +31,7 @@ use Rattle.answer_rows.specs.NewTrees.{is_all_new}
 use Rattle.verdict_run.specs.inside.Kept.{lines_of_refuted, lines_of_spent, TellsExample, IsOfSeat}
 use Rattle.verdict_run.specs.inside.Kept.{IsOfPlace, IsFoundAt, TellsPlace, TellsBoth, TellsOthers}
 use Rattle.verdict_run.specs.inside.Kept.{IsOfPool, AreOfPool}
+use Rattle.league_core.proofs.plain.Slots.{at_pushed}
 
 -- ---- answers
 
@@ -63,12 +64,6 @@ spent_by None false true none not_refuted settled = refl
 spent_by None false false none not_refuted settled = absurd (false≢true settled)
 
 -- ---- one question
-
--- two facts of what an `Ok` has give a third
-pub both_ok : {A E : Type 0} (r : Result A E) (P Q R : A → Type 0)
-    → ((x : A) → P x → Q x → R x) → IfOk r P → IfOk r Q → IfOk r R
-both_ok (Ok x) P Q R gives one other = gives x one other
-both_ok (Err e) P Q R gives one other = tt
 
 -- the example that is kept comes from what is kept
 pub won_of_seat : (sheet : Sheet) (season : Results) (seat : QuestionState) (example : Example)
@@ -217,20 +212,6 @@ parts_of_pool pool place verdict inside outside not_refuted one two is are = rec
         both (in_part (λ e. cc)) (out_part (λ e. cc)) lines
 
 -- ---- row by row
-
--- what stands in a list that is longer by one stood there before, or is the last
-at_pushed : {X : Type 0} (xs : List X) (last : X) (i : ℕ) (x : X)
-    → slice_get (xs ++ last ∷ []) i ≡ Some x
-    → (slice_get xs i ≡ Some x) ⊎ ((i ≡ length xs) × (last ≡ x))
-at_pushed [] last zero x is = inr (refl, same_Some last x is)
-at_pushed [] last (suc i) x is = absurd (none-some x is)
-at_pushed (first ∷ xs) last zero x is = inl is
-at_pushed (head ∷ xs) last (suc i) x is =
-    elim (at_pushed xs last i x is) as
-    (λ _. (slice_get (head ∷ xs) (suc i) ≡ Some x) ⊎ ((suc i ≡ length (head ∷ xs)) × (last ≡ x))) [
-      | inl before ↦ inl before
-      | inr end ↦ inr (ap suc end.0, end.1)
-    ]
 
 -- one verdict more
 pub pushed_of_pool : (pool : PoolView) (count : ℕ) (verdicts : List Verdict) (verdict : Verdict)

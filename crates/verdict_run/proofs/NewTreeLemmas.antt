@@ -1,28 +1,13 @@
 -- Trees all of whose splits and refuted leaves are new: they stay so while leaves are lent and come
 -- back as new nodes.
-use Rattle.std.proofs.Common.{◌≡◌, ℕ, Bool, true, false, ◌&&◌, ◌==◌, cond, refl}
-use Rattle.std.proofs.Common.{Option, Some, None}
-use Rattle.std.proofs.lemmas.Bool.{and_parts, and_from}
+use Rattle.std.proofs.Common.{◌≡◌, ℕ, Bool, true, false, ◌==◌, cond, refl, Option, Some, None}
 use Rattle.league_core.specs.search.Trees.{Tree, open_leaf, lent_leaf, refuted_leaf, branch}
 use Rattle.league_core.specs.inside.Lending.{put}
 use Rattle.reason_core.specs.declared.finding.Finding.{Finding}
 use Rattle.reason_core.specs.declared.finding.Finding.TheVariants.{Refuted, Split, Won}
 use Rattle.branch_pool.specs.inside.Steps.{leaf_after}
 use Rattle.answer_rows.specs.NewTrees.{is_all_new}
-
--- the parts of a split that is all new
-split_new : (fresh yes_new no_new : Bool) → (fresh && yes_new && no_new) ≡ true
-    → (fresh ≡ true) × (yes_new ≡ true) × (no_new ≡ true)
-split_new fresh yes_new no_new new =
-    let parts = and_parts (fresh && yes_new) no_new new in
-    let more = and_parts fresh yes_new parts.0 in
-    (more.0, more.1, parts.1)
-
--- and the split from them
-split_from : (fresh yes_new no_new : Bool) → fresh ≡ true → yes_new ≡ true → no_new ≡ true
-    → (fresh && yes_new && no_new) ≡ true
-split_from fresh yes_new no_new f y n =
-    and_from (fresh && yes_new) no_new (and_from fresh yes_new f y) n
+use Rattle.league_core.proofs.plain.TruthValues.{three_from, three_parts}
 
 -- a new tree in the place of leaves of a new tree
 pub is_all_new-put : (number : ℕ) (new tree : Tree) → is_all_new new ≡ true
@@ -35,8 +20,8 @@ is_all_new-put number new (lent_leaf other) fresh all = at_leaf (other == number
     at_leaf false = refl
 is_all_new-put number new (refuted_leaf reason marked) fresh all = all
 is_all_new-put number new (branch test marked yes_half no_half) fresh all =
-    let parts = split_new marked (is_all_new yes_half) (is_all_new no_half) all in
-    split_from marked (is_all_new (put number new yes_half)) (is_all_new (put number new no_half))
+    let parts = three_parts marked (is_all_new yes_half) (is_all_new no_half) all in
+    three_from marked (is_all_new (put number new yes_half)) (is_all_new (put number new no_half))
     parts.0 (is_all_new-put number new yes_half fresh parts.1)
     (is_all_new-put number new no_half fresh parts.2)
 
@@ -47,9 +32,9 @@ is_all_new-lend number open_leaf all = refl
 is_all_new-lend number (lent_leaf other) all = refl
 is_all_new-lend number (refuted_leaf reason marked) all = all
 is_all_new-lend number (branch test marked yes_half no_half) all =
-    let parts = split_new marked (is_all_new (put number open_leaf yes_half))
+    let parts = three_parts marked (is_all_new (put number open_leaf yes_half))
     (is_all_new (put number open_leaf no_half)) all in
-    split_from marked (is_all_new yes_half) (is_all_new no_half) parts.0
+    three_from marked (is_all_new yes_half) (is_all_new no_half) parts.0
     (is_all_new-lend number yes_half parts.1) (is_all_new-lend number no_half parts.2)
 
 -- what comes in the place of a leaf is new

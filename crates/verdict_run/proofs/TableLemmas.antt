@@ -1,7 +1,7 @@
 -- A list of different clubs is put in order club by club, and so each season has a table.
 use Rattle.std.proofs.Common.{◌≡◌, ◌≢◌, ◌⊎◌, inl, inr, ℕ, zero, suc, ◌+◌, ◌<◌, ◌≤◌, Bool, true}
-use Rattle.std.proofs.Common.{false, ◌||◌, eqb, List, [], ◌∷◌, length, Ordering, Less, refl}
-use Rattle.std.proofs.Common.{sym, ap, ◌∙◌, subst, arith}
+use Rattle.std.proofs.Common.{◌||◌, eqb, List, [], ◌∷◌, length, Ordering, Less, refl, sym, ap, ◌∙◌}
+use Rattle.std.proofs.Common.{subst, arith}
 use Rattle.std.specs.Cmp.{IsTotalOrder}
 use Rattle.std.specs.List.{range_with_len}
 use Rattle.std.proofs.lemmas.Bool.{or_cases, or_left, or_right, eq-eqb, eqb-true, false≢true}
@@ -9,8 +9,9 @@ use Rattle.league_core.specs.declared.sheet.Sheet.{Sheet}
 use Rattle.league_core.specs.game.Results.{Results}
 use Rattle.league_core.specs.game.Sums.{has_club}
 use Rattle.league_core.specs.game.Ranking.{are_lots, order_of, ranks_before, AreRanked, IsTable}
-use Rattle.league_core.proofs.OrderingLemmas.{less-is_lt}
 use Rattle.league_core.proofs.RankingLemmas.{order_of_total, ranks_before-one}
+use Rattle.league_core.proofs.plain.Orderings.{less-is_lt}
+use Rattle.league_core.proofs.plain.TruthValues.{or_swap}
 
 -- of two clubs one comes first
 abbrev OneIsFirst : (ℕ → ℕ → Ordering) → ℕ → ℕ → Type 0
@@ -20,12 +21,6 @@ OneIsFirst order club other = (order club other ≡ Less) ⊎ (order other club 
 pub record IsInserted (order : ℕ → ℕ → Ordering) (club : ℕ) (clubs table : List ℕ) : Type 0 where
   pub ranked : AreRanked order table
   pub has : (other : ℕ) → has_club table other ≡ (eqb club other || has_club clubs other)
-
--- two members of a list in either order
-or_swap : (a b c : Bool) → (a || (b || c)) ≡ (b || (a || c))
-or_swap true true c = refl
-or_swap true false c = refl
-or_swap false b c = refl
 
 -- a club that comes before the first of a ranked list comes before them all
 before_all : (order : ℕ → ℕ → Ordering) (club first : ℕ) (later : List ℕ) → IsTotalOrder order

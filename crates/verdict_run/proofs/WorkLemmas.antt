@@ -1,8 +1,7 @@
 -- What a turn of work leaves as it was, that it leaves less to do, and that nothing is out after it
 -- if nothing was out before.
-use Rattle.std.proofs.Common.{◌≡◌, ℕ, suc, ◌+◌, ◌-◌, ◌<◌, true}
-use Rattle.std.proofs.Common.{List, [], ◌∷◌, Option, Some, None, refl, sym, ap, ◌∙◌}
-use Rattle.std.proofs.Common.{subst, arith, set, cond}
+use Rattle.std.proofs.Common.{◌≡◌, ℕ, suc, ◌+◌, ◌-◌, ◌<◌, true, List, [], ◌∷◌, Option, Some, None}
+use Rattle.std.proofs.Common.{refl, sym, ap, ◌∙◌, subst, arith, set, cond}
 use Rattle.std.specs.Prelude.{is_some, is_none, sum_by}
 use Rattle.std.specs.List.{slice_get}
 use Rattle.std.proofs.lemmas.Bool.{false≢true, and_parts, ltb-true}
@@ -19,9 +18,9 @@ use Rattle.branch_pool.specs.inside.States.{PoolView, is_workable, free_number, 
 use Rattle.branch_pool.specs.inside.States.{out_count}
 use Rattle.branch_pool.specs.inside.Steps.{seat_lent, seat_after, units_after, example_after}
 use Rattle.branch_pool.specs.inside.Steps.{loan_of}
-use Rattle.branch_pool.proofs.SlotLemmas.{slice_get-set_same}
 use Rattle.branch_pool.specs.inside.Runs.{WorksNext, IsWorked}
 use Rattle.verdict_run.specs.inside.Working.{WorksTo, no_turn, one_turn_more, IsSameLeague}
+use Rattle.league_core.proofs.plain.Slots.{slice_get-set_same}
 
 -- ---- what stays
 

@@ -14,8 +14,9 @@ use reason_core::Solver;
 use score_box::Played;
 use std::alloc::Global;
 
-/// Works on each question of the pool in their order, until it is known or its budget is spent. No
-/// number is out before, and none is afterwards. If memory runs out, the pool is gone.
+/// Works on each question of the pool in their order, and on its leaves as `take` would lend them,
+/// until it is known or its budget is spent. No number is out before, and none is afterwards. If
+/// memory runs out, the pool is gone.
 pub fn finish(alloc: Global, pool: Pool) -> Result<Pool, OutOfMemory>
     requires home { out_count pool.loans ≡ 0 }
     ensures work { IfOk result (λ new. WorksTo pool new) }

@@ -1,9 +1,9 @@
 -- A match that is not played can end each way.
-use Rattle.std.proofs.Common.{◌≡◌, ℕ, suc, ◌+◌, ◌≤◌, Bool, true, false, not, ◌&&◌, ◌||◌, ◌==◌, List}
-use Rattle.std.proofs.Common.{[], ◌∷◌, get_or, nat_le, Option, Some, None, refl, sym, ap, ◌∙◌}
-use Rattle.std.proofs.Common.{inl, inr, arith}
+use Rattle.std.proofs.Common.{◌≡◌, ℕ, suc, ◌+◌, ◌≤◌, Bool, true, false, not, ◌&&◌, ◌==◌, List, []}
+use Rattle.std.proofs.Common.{◌∷◌, get_or, nat_le, Option, Some, None, refl, sym, ap, ◌∙◌, inl, inr}
+use Rattle.std.proofs.Common.{arith}
 use Rattle.std.specs.List.{list_all}
-use Rattle.std.proofs.lemmas.Bool.{and_from, or_left, or_right, cases_Bool, eqb-true, le-leb}
+use Rattle.std.proofs.lemmas.Bool.{and_from, or_left, cases_Bool, eqb-true, le-leb}
 use Rattle.league_core.specs.declared.sheet.Sheet.{Sheet}
 use Rattle.league_core.specs.declared.season.Score.{Score}
 use Rattle.league_core.specs.declared.zone.Test.{Test}
@@ -19,6 +19,7 @@ use Rattle.league_core.proofs.OptionTestLemmas.{has_option-some}
 use Rattle.what_if.specs.declared.outcome.Outcome.{Outcome}
 use Rattle.what_if.specs.declared.outcome.Outcome.TheVariants as outcome
 use Rattle.what_if.specs.Bases.{base_of}
+use Rattle.league_core.proofs.plain.TruthValues.{or_second}
 
 -- a test that has to be true, or false
 abbrev said : Test → Bool → Literal
@@ -30,24 +31,20 @@ score_so outcome.Home = score_of 1 0
 score_so outcome.Draw = score_of 0 0
 score_so outcome.Away = score_of 0 1
 
--- a literal on a fixture is met by a score that passes as it says
-meets_said : (b passed : Bool) → passed ≡ true → (not b || passed) ≡ true
-meets_said b passed is = or_right (not b) passed is
-
 -- the match itself, with that score
 meets_so : (fixture : ℕ) (how : Outcome) → meets (base_of fixture how) fixture (score_so how) ≡ true
 meets_so fixture outcome.Home =
     and_from (meets_literal fixture (score_of 1 0) (said (Home fixture) true)) true
-    (meets_said (fixture == fixture) true refl) refl
+    (or_second (fixture == fixture) true refl) refl
 meets_so fixture outcome.Draw =
     and_from (meets_literal fixture (score_of 0 0) (said (Draw fixture) true)) true
-    (meets_said (fixture == fixture) true refl) refl
+    (or_second (fixture == fixture) true refl) refl
 meets_so fixture outcome.Away =
     and_from (meets_literal fixture (score_of 0 1) (said (Home fixture) false))
     (meets_literal fixture (score_of 0 1) (said (Draw fixture) false) && true)
-    (meets_said (fixture == fixture) true refl)
+    (or_second (fixture == fixture) true refl)
     (and_from (meets_literal fixture (score_of 0 1) (said (Draw fixture) false)) true
-    (meets_said (fixture == fixture) true refl) refl)
+    (or_second (fixture == fixture) true refl) refl)
 
 -- any other match, with any score
 meets_off : (number fixture : ℕ) (how : Outcome) (score : Score) → (number == fixture) ≡ false

@@ -2,8 +2,7 @@
 -- true.
 use Rattle.std.proofs.Common.{◌≡◌, ℕ, zero, suc, ◌+◌, ◌<◌, true, false, not, ◌&&◌, ◌||◌, nat_lt}
 use Rattle.std.proofs.Common.{List, [], ◌∷◌, ◌++◌, length, get_or, Option, Some, None, refl, sym}
-use Rattle.std.proofs.Common.{ap}
-use Rattle.std.proofs.Common.{◌∙◌, arith}
+use Rattle.std.proofs.Common.{ap, ◌∙◌, arith}
 use Rattle.std.proofs.lemmas.Bool.{false≢true, and_parts, and_from, eq-eqb, ltb-true, lt-ltb}
 use Rattle.league_core.specs.declared.sheet.Sheet.{Sheet}
 use Rattle.league_core.specs.declared.season.Score.{Score}
@@ -23,12 +22,12 @@ use Rattle.league_core.specs.search.Options.{take_options, IsInBox, has_finish, 
 use Rattle.league_core.specs.search.Proposals.{proposed_finish}
 use Rattle.league_core.proofs.OptionLemmas.{has_score-options_of}
 use Rattle.league_core.proofs.ProposalLemmas.{proposed_in_box}
-use Rattle.reason_laws.proofs.MemberLemmas.{list_all-weaker}
 use Rattle.cert_text.proofs.TreeRangeLemmas.{is_rival_in_range, are_rivals_in_range}
 use Rattle.verdict_run.proofs.BoxPrefixLemmas.{box_prefix}
 use Rattle.what_if.specs.declared.outcome.Outcome.{Outcome}
 use Rattle.what_if.specs.declared.outcome.Outcome.TheVariants as outcome
 use Rattle.what_if.specs.Bases.{base_of, is_on_a_score, is_base_of}
+use Rattle.league_core.proofs.plain.Lists.{list_all-weaker}
 
 -- ---- the outcomes of a match
 

@@ -7,6 +7,7 @@ pub mod WorkedSteps
 pub mod BaseFinishLemmas
 pub mod BaseLemmas
 pub mod BelowLemmas
+pub mod HintLemmas
 pub mod TaskLemmas
 pub mod PartLemmas
 pub mod GivenLemmas

@@ -21,7 +21,7 @@ use Rattle.cert_text.specs.ExampleLines.{example_lines}
 use Rattle.cert_text.proofs.TreeRangeLemmas.{marked_lines_below}
 use Rattle.cert_text.proofs.ExampleRangeLemmas.{example_in_range}
 use Rattle.answer_rows.specs.declared.word.Word.{Word}
-use Rattle.answer_rows.specs.declared.word.Word.TheVariants.{Clinched}
+use Rattle.answer_rows.specs.declared.word.Word.TheVariants.{Clinched, Lost}
 use Rattle.verdict_run.specs.declared.part.Part.{Part}
 use Rattle.verdict_run.specs.declared.part.Known.{Known}
 use Rattle.verdict_run.specs.declared.part.Known.TheVariants.{Won, Refuted, Spent}
@@ -138,4 +138,18 @@ pub clinched_by : (sheet : Sheet) (season : Results) (zone : List Literal) (line
 clinched_by sheet season zone line club outside club_in two known = record {
   shown = rw known at two.shows;
   in_range = record { club = club_in; lines = all_lines outside.lines.items two.in_range };
+}
+
+-- a verdict whose question of `Inside` holds nowhere
+pub lost_by : (sheet : Sheet) (season : Results) (zone : List Literal) (line club : ℕ)
+    (lines : Vec ProofLine Global) → club < length sheet.clubs
+    → HoldsNowhereIn sheet season (full_question club line Inside) zone → lines.items ≡ []
+    → IsRightGiven sheet season zone
+    (record { line = line; club = club; word = Lost; proof = lines })
+lost_by sheet season zone line club lines club_in nowhere none = record {
+  shown = (nowhere, none);
+  in_range = record {
+    club = club_in;
+    lines = all_lines lines.items (ap (list_all is_in_range) none);
+  };
 }

@@ -5,12 +5,12 @@ use Rattle.std.proofs.Common.{sym, ap, ◌∙◌, subst}
 use Rattle.std.specs.Io.KnownBytes.{append_known}
 use Rattle.std.proofs.lemmas.List.{append-nil}
 use Rattle.port_core.specs.Ports.{AppendsPrefix}
-use Rattle.port_core.proofs.RowLemmas.{append_known-append_known}
 use Rattle.answer_rows.specs.declared.output.OutputStop.{OutputStop}
 use Rattle.answer_rows.specs.declared.output.OutputStop.TheVariants.{WriteFault, OutOfMemory}
 use Rattle.answer_rows.specs.Parts.{IsMadeOf}
 use Rattle.answer_rows.specs.inside.Outputs.{Puts, PutsSomeText, PutsSomePrefix}
 use Rattle.answer_rows.proofs.OutputLemmas.{front-more, puts-behind}
+use Rattle.league_core.proofs.plain.Streams.{append_known-append_known}
 
 -- a text that is one of this kind went out, or a prefix of it
 pub puts_some : {A : Type 0} (IsText : List ℕ → Type 0) (text : List ℕ) (old now : Option (List ℕ))

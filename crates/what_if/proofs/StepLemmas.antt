@@ -1,7 +1,7 @@
 -- Lemmas on steps: what is known of one that no test refuses, and what a line asks about.
 use Rattle.std.proofs.Common.{◌≡◌, ℕ, Bool, true, false, not, ◌==◌, List, length, Option, None}
-use Rattle.std.proofs.Common.{Some, is_some, if◌then◌else◌, Result, Ok, Err, refl, sym, ap, ◌∙◌}
-use Rattle.std.proofs.Common.{subst, arith}
+use Rattle.std.proofs.Common.{Some, if◌then◌else◌, Result, Ok, Err, refl, sym, ap, ◌∙◌, subst}
+use Rattle.std.proofs.Common.{arith}
 use Rattle.std.specs.Prelude.{IfSome}
 use Rattle.std.proofs.lemmas.Bool.{not-false}
 use Rattle.league_core.specs.declared.sheet.Sheet.{Sheet}
@@ -21,6 +21,7 @@ use Rattle.what_if.specs.declared.step.Step.TheVariants as step
 use Rattle.what_if.specs.Steps.{about_if, about_of, entry_step, forget, forgotten, is_when}
 use Rattle.what_if.specs.Steps.{step_given, step_if, step_in, step_line, step_of, when_tests}
 use Rattle.what_if.specs.inside.StepCalls.{IsStepAt, IsUnplayedFixture}
+use Rattle.league_core.proofs.plain.Options.{none_there}
 
 -- ---- the tests of a record
 
@@ -33,10 +34,6 @@ unrefused false fault rest value told = (refl, told)
 same-value : {A : Type 0} (value other : A) (given : Result A FeedFault) → given ≡ Ok other
     → given ≡ Ok value → value ≡ other
 same-value value other given is told = cc
-
-none-there : {A : Type 0} (found : Option A) → is_some found ≡ false → found ≡ None
-none-there None is = refl
-none-there (Some value) is = cc
 
 -- a `when` that is not refused asks about a match that is still to be played
 when-unplayed : (sheet : Sheet) (season : Results) (fields : List (List ℕ)) (found : Step)
@@ -51,7 +48,7 @@ when-unplayed sheet season fields found told =
     let range = range-within 1 (length sheet.fixtures) (field 1 fields) (not-false _ fixture.0) in (
       same-value found (step.When (fixture_in fields)) (Ok (step.When (fixture_in fields))) refl
           played.1,
-      (omega (arith, range.0, range.1), none-there _ played.0),
+      (omega (arith, range.0, range.1), none_there _ played.0),
     )
 
 -- a step of an entry is that of the entry that is given

@@ -204,23 +204,25 @@ task_over sheet season question base task club_in good refuted =
 
 -- some leaf is not, and no unit is left: the budget was spent
 pub task_spent : (sheet : Sheet) (season : Results) (question : Question) (base : List Literal)
-    (task : Task) → IsLeague sheet season → are_results season ≡ true
+    (task : Task) (budget : ℕ) → IsLeague sheet season → are_results season ≡ true
     → IsTask sheet season question base task → is_refuted task.tree ≡ false
-    → (task.units < sheet.budget → has_open task.tree ≡ false) → task.units ≤ sheet.budget
-    → IsFairlySpentBelow sheet season question base sheet.budget task.tree
-task_spent sheet season question base task league results good unrefuted shut within = record {
-  tests = proper_tests sheet season question task.tree base league results
-      (NodesMeet-weaker (IsGoodNode sheet season question) (IsProperNode sheet season question)
-      (λ zone node fact. fact.proper) task.tree base good.nodes);
-  spent = and_from (new_count task.tree == sheet.budget) (has_open task.tree)
-      (eq-eqb (new_count task.tree) sheet.budget (sym good.units_are ∙ used)) ready;
-  reasons = NodesMeet-weaker (IsGoodNode sheet season question)
-      (IsReasonTrue sheet season question) (λ zone node fact. fact.refuted) task.tree base
-      good.nodes;
-  units = NodesMeet-weaker (IsGoodNode sheet season question)
-      (IsUnitIfNew sheet season question) (λ zone node fact. fact.unit) task.tree base good.nodes;
-  all_new = good.all_new;
-}
+    → (task.units < budget → has_open task.tree ≡ false) → task.units ≤ budget
+    → IsFairlySpentBelow sheet season question base budget task.tree
+task_spent sheet season question base task budget league results good unrefuted shut within =
+    record {
+      tests = proper_tests sheet season question task.tree base league results
+          (NodesMeet-weaker (IsGoodNode sheet season question) (IsProperNode sheet season question)
+          (λ zone node fact. fact.proper) task.tree base good.nodes);
+      spent = and_from (new_count task.tree == budget) (has_open task.tree)
+          (eq-eqb (new_count task.tree) budget (sym good.units_are ∙ used)) ready;
+      reasons = NodesMeet-weaker (IsGoodNode sheet season question)
+          (IsReasonTrue sheet season question) (λ zone node fact. fact.refuted) task.tree base
+          good.nodes;
+      units = NodesMeet-weaker (IsGoodNode sheet season question)
+          (IsUnitIfNew sheet season question) (λ zone node fact. fact.unit) task.tree base
+          good.nodes;
+      all_new = good.all_new;
+    }
   where
     some_open : (b : Bool) → has_open task.tree ≡ b → has_open task.tree ≡ true
     some_open true is = is
@@ -230,12 +232,12 @@ task_spent sheet season question base task league results good unrefuted shut wi
     ready : has_open task.tree ≡ true
     ready = some_open (has_open task.tree) refl
 
-    all_used : (b : Bool) → nat_lt task.units sheet.budget ≡ b → task.units ≡ sheet.budget
+    all_used : (b : Bool) → nat_lt task.units budget ≡ b → task.units ≡ budget
     all_used true less = absurd (true≢false (sym ready
-        ∙ shut (ltb-true task.units sheet.budget less)))
+        ∙ shut (ltb-true task.units budget less)))
     all_used false less =
-        let most = ltb-false task.units sheet.budget less in
+        let most = ltb-false task.units budget less in
         omega (arith, most, within)
 
-    used : task.units ≡ sheet.budget
-    used = all_used (nat_lt task.units sheet.budget) refl
+    used : task.units ≡ budget
+    used = all_used (nat_lt task.units budget) refl

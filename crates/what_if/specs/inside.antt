@@ -2,6 +2,7 @@
 -- these words. Read in this order.
 pub mod StepCalls
 pub mod StepLaws
+pub mod SeasonParts
 pub mod Tasks
 pub mod GivenParts
 pub mod WhenLaws

@@ -10,7 +10,9 @@ ghost use Rattle.what_if.specs.Bases.{is_base_of};
 ghost use Rattle.what_if.specs.Given.{AreVerdictsGiven};
 ghost use Rattle.what_if.specs.inside.GivenParts.{AddsVerdicts, IsBaseIn, IsRightGiven};
 
+use crate::known_season::KnownSeason;
 use crate::part::part_given;
+use crate::season_part::InSeason;
 use answer_rows::{Verdict, Word};
 use branch_rules::ZoneSolver;
 use league_core::{Claim, Literal, OutOfMemory, Season, Sheet, Zone};
@@ -50,29 +52,30 @@ fn verdicts_below(
     ensures in_range { IfOk result (λ found. AreInRange played.now.sheet found.items) }
 {
     let mut solver = ZoneSolver::new(alloc, played)?;
-    verdicts_by(alloc, played, &mut solver, base)
+    let stage = KnownSeason::new(played, Vec::new(alloc));
+    verdicts_by(alloc, &stage, &mut solver, base)
 }
 
 /// The same by a worker on this season, which may have worked on other bases before.
 pub(crate) fn verdicts_by(
     alloc: Global,
-    played: &Played,
+    stage: &KnownSeason,
     solver: &mut ZoneSolver,
     base: &[Literal],
 ) -> Result<Vec<Verdict>, OutOfMemory>
-    requires sheet { solver.old.sheet ≡ played.now.sheet }
-    requires season { solver.old.season ≡ played.now.season }
-    requires base { IsBaseIn played.now.sheet played.now.season base.now }
+    requires sheet { solver.old.sheet ≡ stage.now.sheet }
+    requires season { solver.old.season ≡ stage.now.season }
+    requires base { IsBaseIn stage.now.sheet stage.now.season base.now }
     ensures answer { IfOk result (λ found.
-        AreVerdictsGiven played.now.sheet played.now.season base.now found.items) }
-    ensures in_range { IfOk result (λ found. AreInRange played.now.sheet found.items) }
+        AreVerdictsGiven stage.now.sheet stage.now.season base.now found.items) }
+    ensures in_range { IfOk result (λ found. AreInRange stage.now.sheet found.items) }
     ensures same_sheet { solver.new.sheet ≡ solver.old.sheet }
     ensures same_season { solver.new.season ≡ solver.old.season }
 {
-    let sheet = played.sheet();
+    let sheet = stage.sheet();
     let mut found = Vec::new(alloc);
     for line in sheet.lines.as_slice() {
-        push_line(alloc, played, solver, base, *line, &mut found)?;
+        push_line(alloc, stage, solver, base, *line, &mut found)?;
     }
     Ok(found)
 }
@@ -80,50 +83,61 @@ pub(crate) fn verdicts_by(
 // The verdicts about a line.
 fn push_line(
     alloc: Global,
-    played: &Played,
+    stage: &KnownSeason,
     solver: &mut ZoneSolver,
     base: &[Literal],
     line: u8,
     found: &mut Vec<Verdict>,
 ) -> Result<(), OutOfMemory>
-    requires sheet { solver.old.sheet ≡ played.now.sheet }
-    requires season { solver.old.season ≡ played.now.season }
-    requires base { IsBaseIn played.now.sheet played.now.season base.now }
-    requires line { IsTrue (is_line (length played.now.sheet.clubs) line) }
-    ensures adds { OnOk result (AddsVerdicts played.now.sheet played.now.season base.now line
-        (length played.now.sheet.clubs) found.old.items found.new.items) }
+    requires sheet { solver.old.sheet ≡ stage.now.sheet }
+    requires season { solver.old.season ≡ stage.now.season }
+    requires base { IsBaseIn stage.now.sheet stage.now.season base.now }
+    requires line { IsTrue (is_line (length stage.now.sheet.clubs) line) }
+    ensures adds { OnOk result (AddsVerdicts stage.now.sheet stage.now.season base.now line
+        (length stage.now.sheet.clubs) found.old.items found.new.items) }
     ensures same_sheet { solver.new.sheet ≡ solver.old.sheet }
     ensures same_season { solver.new.season ≡ solver.old.season }
 {
-    for club in 0..played.sheet().clubs.len() as u8 {
-        found.push(verdict_given(alloc, played, solver, base, line, club)?)?;
+    for club in 0..stage.sheet().clubs.len() as u8 {
+        found.push(verdict_given(alloc, stage, solver, base, line, club)?)?;
     }
     Ok(())
 }
 
-// The verdict of a club and a line. If the club ends inside the line at each member of the base,
-// the other question is not worked on.
+// The verdict of a club and a line. If the club ends outside the line at each finish of the season,
+// or inside it at each member of the base, no other question is worked on.
 fn verdict_given(
     alloc: Global,
-    played: &Played,
+    stage: &KnownSeason,
     solver: &mut ZoneSolver,
     base: &[Literal],
     line: u8,
     club: u8,
 ) -> Result<Verdict, OutOfMemory>
-    requires sheet { solver.old.sheet ≡ played.now.sheet }
-    requires season { solver.old.season ≡ played.now.season }
-    requires base { IsBaseIn played.now.sheet played.now.season base.now }
-    requires line { IsTrue (is_line (length played.now.sheet.clubs) line) }
-    requires club { club < length played.now.sheet.clubs }
+    requires sheet { solver.old.sheet ≡ stage.now.sheet }
+    requires season { solver.old.season ≡ stage.now.season }
+    requires base { IsBaseIn stage.now.sheet stage.now.season base.now }
+    requires line { IsTrue (is_line (length stage.now.sheet.clubs) line) }
+    requires club { club < length stage.now.sheet.clubs }
     ensures about { IfOk result (λ verdict. answer_row verdict
         ≡ record { line = line; club = club }) }
-    ensures right { IfOk result (IsRightGiven played.now.sheet played.now.season base.now) }
+    ensures right { IfOk result (IsRightGiven stage.now.sheet stage.now.season base.now) }
     ensures same_sheet { solver.new.sheet ≡ solver.old.sheet }
     ensures same_season { solver.new.season ≡ solver.old.season }
 {
-    let question = full_question(club, line, Claim::Outside);
-    let outside = part_given(alloc, played, solver, &question, base)?;
+    let question = full_question(club, line, Claim::Inside);
+    if let Some(InSeason::Nowhere) = stage.known(&question) {
+        let word = Word::Lost;
+        let proof = Vec::new(alloc);
+        return Ok(Verdict {
+            line,
+            club,
+            word,
+            proof,
+        });
+    }
+    let other = full_question(club, line, Claim::Outside);
+    let outside = part_given(alloc, stage, solver, &other, base)?;
     if let Known::Refuted = outside.known {
         let word = Word::Clinched;
         return Ok(Verdict {
@@ -133,8 +147,7 @@ fn verdict_given(
             proof: outside.lines,
         });
     }
-    let question = full_question(club, line, Claim::Inside);
-    let inside = part_given(alloc, played, solver, &question, base)?;
+    let inside = part_given(alloc, stage, solver, &question, base)?;
     let word = word_of(inside.known, outside.known);
     let proof = joined(word, inside, outside)?;
     Ok(Verdict {

@@ -5,11 +5,15 @@
 #![tactic(auto)]
 
 mod given;
+mod hints;
+mod known_season;
 mod laws;
+mod literals;
 mod outcome;
 mod part;
 mod round;
 mod row;
+mod season_part;
 mod step;
 mod step_laws;
 mod step_reader;

@@ -1,15 +1,19 @@
 //! What stands for one question given a base.
 
 ghost use Rattle.std.specs.Prelude.{◌≡◌, ◌<◌, [], IfOk, length};
-ghost use Rattle.league_core.specs.game.Questions.{IsQuestionOf};
+ghost use Rattle.league_core.specs.game.Questions.{IsExample, IsQuestionOf};
 ghost use Rattle.cert_text.specs.TreeLines.{marked_lines, with_spent_head};
 ghost use Rattle.cert_text.specs.ExampleLines as shown;
 ghost use Rattle.what_if.specs.inside.GivenParts.{IsAnswerPartGiven, IsBaseIn};
 
+use crate::hints::Hints;
+use crate::known_season::KnownSeason;
+use crate::literals::are_true;
+use crate::season_part::InSeason;
 use crate::task::solve_given;
+use branch_pool::Example;
 use branch_rules::ZoneSolver;
 use league_core::{Finish, Literal, Lots, OutOfMemory, Question, Season};
-use score_box::Played;
 use std::alloc::Global;
 use tree_reuse::Tree;
 use verdict_run::{Known, Part, Solved, example_lines, spent_lines};
@@ -18,24 +22,82 @@ use verdict_run::{Known, Part, Solved, example_lines, spent_lines};
 /// of the base, or the tree on which the budget was spent. No line shows that it holds nowhere.
 pub(crate) fn part_given(
     alloc: Global,
-    played: &Played,
+    stage: &KnownSeason,
     solver: &mut ZoneSolver,
     question: &Question,
     base: &[Literal],
 ) -> Result<Part, OutOfMemory>
-    requires sheet { solver.old.sheet ≡ played.now.sheet }
-    requires season { solver.old.season ≡ played.now.season }
-    requires of_sheet { IsQuestionOf played.now.sheet question.now }
-    requires base { IsBaseIn played.now.sheet played.now.season base.now }
+    requires sheet { solver.old.sheet ≡ stage.now.sheet }
+    requires season { solver.old.season ≡ stage.now.season }
+    requires of_sheet { IsQuestionOf stage.now.sheet question.now }
+    requires base { IsBaseIn stage.now.sheet stage.now.season base.now }
     ensures part { IfOk result
-        (IsAnswerPartGiven played.now.sheet played.now.season base.now question.now) }
+        (IsAnswerPartGiven stage.now.sheet stage.now.season base.now question.now) }
     ensures same_sheet { solver.new.sheet ≡ solver.old.sheet }
     ensures same_season { solver.new.season ≡ solver.old.season }
 {
-    let budget = played.sheet().budget;
-    let season = played.season();
+    match stage.known(question) {
+        Some(InSeason::Nowhere) => Ok(refuted(alloc)),
+        Some(InSeason::Met(example)) => part_by(alloc, stage, solver, question, base, example),
+        _ => worked(alloc, stage, solver, question, base, None),
+    }
+}
+
+// The same, where an example of the season is known: if it is no member of the base, the question
+// is worked on.
+fn part_by(
+    alloc: Global,
+    stage: &KnownSeason,
+    solver: &mut ZoneSolver,
+    question: &Question,
+    base: &[Literal],
+    example: &Example,
+) -> Result<Part, OutOfMemory>
+    requires sheet { solver.old.sheet ≡ stage.now.sheet }
+    requires season { solver.old.season ≡ stage.now.season }
+    requires of_sheet { IsQuestionOf stage.now.sheet question.now }
+    requires base { IsBaseIn stage.now.sheet stage.now.season base.now }
+    requires example { IsExample stage.now.sheet stage.now.season question.now
+        example.now.finish example.now.lots }
+    ensures part { IfOk result
+        (IsAnswerPartGiven stage.now.sheet stage.now.season base.now question.now) }
+    ensures same_sheet { solver.new.sheet ≡ solver.old.sheet }
+    ensures same_season { solver.new.season ≡ solver.old.season }
+{
+    let (_sheet, season) = (stage.sheet(), stage.season());
     let _scores = season.scores();
-    match solve_given(alloc, solver, question, base, budget)? {
+    let Example { finish, lots } = example;
+    if are_true(base, finish.as_season()) {
+        won(alloc, season, question, finish, lots)
+    } else {
+        worked(alloc, stage, solver, question, base, Some(example))
+    }
+}
+
+// The same by work on the question, with an example of the season to move.
+fn worked(
+    alloc: Global,
+    stage: &KnownSeason,
+    solver: &mut ZoneSolver,
+    question: &Question,
+    base: &[Literal],
+    example: Option<&Example>,
+) -> Result<Part, OutOfMemory>
+    requires sheet { solver.old.sheet ≡ stage.now.sheet }
+    requires season { solver.old.season ≡ stage.now.season }
+    requires of_sheet { IsQuestionOf stage.now.sheet question.now }
+    requires base { IsBaseIn stage.now.sheet stage.now.season base.now }
+    ensures part { IfOk result
+        (IsAnswerPartGiven stage.now.sheet stage.now.season base.now question.now) }
+    ensures same_sheet { solver.new.sheet ≡ solver.old.sheet }
+    ensures same_season { solver.new.season ≡ solver.old.season }
+{
+    let budget = stage.sheet().budget;
+    let season = stage.season();
+    let _scores = season.scores();
+    let played = stage.played();
+    let hints = Hints { played, example };
+    match solve_given(alloc, solver, question, base, &hints, budget)? {
         Solved::Won(finish, lots) => won(alloc, season, question, &finish, &lots),
         Solved::Refuted(_) => Ok(refuted(alloc)),
         Solved::Spent(tree) => spent(alloc, question, &tree),

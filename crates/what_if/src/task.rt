@@ -1,6 +1,6 @@
 //! One question, worked on from its root on, given a zone.
 
-ghost use Rattle.std.specs.Prelude.{◌≡◌, ◌<◌, ◌++◌, IfOk, IsTrue, true};
+ghost use Rattle.std.specs.Prelude.{◌≡◌, ◌<◌, ◌≤◌, ◌++◌, IfOk, IsTrue, true};
 ghost use Rattle.league_core.specs.game.Seasons.{IsLeague};
 ghost use Rattle.league_core.specs.game.Questions.{IsQuestionOf};
 ghost use Rattle.league_core.specs.search.Options.{has_finish};
@@ -9,6 +9,7 @@ ghost use Rattle.league_core.specs.search.Trees.{open_leaf, has_open};
 ghost use Rattle.what_if.specs.Bases.{is_base_of};
 ghost use Rattle.what_if.specs.inside.Tasks.{IsSolvedGiven, IsTask, WorksTask};
 
+use crate::hints::Hints;
 use branch_pool::Example;
 use branch_rules::ZoneSolver;
 use league_core::{Literal, OutOfMemory, Question};
@@ -77,6 +78,39 @@ impl Task {
     }
 }
 
+impl Task {
+    // An example is found beside the search, or a leaf is worked on.
+    fn turn(
+        &mut self,
+        alloc: Global,
+        solver: &mut ZoneSolver,
+        question: &Question,
+        base: &[Literal],
+        hints: &Hints,
+    ) -> Result<Option<Example>, OutOfMemory>
+        requires sheet { solver.old.sheet ≡ hints.now.played.now.sheet }
+        requires season { solver.old.season ≡ hints.now.played.now.season }
+        requires league { IsLeague solver.old.sheet solver.old.season }
+        requires of_sheet { IsQuestionOf solver.old.sheet question.now }
+        requires base { IsTrue (is_base_of solver.old.sheet base.now) }
+        requires has_finish { IsTrue
+            (has_finish solver.old.sheet solver.old.season base.now) }
+        requires task { IsTask solver.old.sheet solver.old.season question.now base.now self.old }
+        requires open_leaf { has_open self.old.tree ≡ true }
+        requires few { self.old.units < 50000 }
+        ensures works { IfOk result (WorksTask solver.old.sheet solver.old.season question.now
+            base.now self.old self.new) }
+        ensures same_sheet { solver.new.sheet ≡ solver.old.sheet }
+        ensures same_season { solver.new.season ≡ solver.old.season }
+    {
+        let found = hints.found(alloc, question, base, self.units)?;
+        if found.is_some() {
+            return Ok(found);
+        }
+        self.work(alloc, solver, question, base)
+    }
+}
+
 // The zone that a base and a way from the root below it make.
 fn below(alloc: Global, base: &[Literal], way: &[Literal]) -> Result<Vec<Literal>, OutOfMemory>
     ensures { IfOk result (λ zone. zone.items ≡ base.now ++ way.now) }
@@ -92,6 +126,7 @@ pub(crate) fn solve_given(
     solver: &mut ZoneSolver,
     question: &Question,
     base: &[Literal],
+    hints: &Hints,
     budget: u32,
 ) -> Result<Solved, OutOfMemory>
     requires league { IsLeague solver.old.sheet solver.old.season }
@@ -99,15 +134,17 @@ pub(crate) fn solve_given(
     requires of_sheet { IsQuestionOf solver.old.sheet question.now }
     requires base { IsTrue (is_base_of solver.old.sheet base.now) }
     requires has_finish { IsTrue (has_finish solver.old.sheet solver.old.season base.now) }
-    requires budget { budget ≡ solver.old.sheet.budget }
+    requires sheet { solver.old.sheet ≡ hints.now.played.now.sheet }
+    requires season { solver.old.season ≡ hints.now.played.now.season }
+    requires budget { budget ≤ 50000 }
     ensures solved { IfOk result
-        (IsSolvedGiven solver.old.sheet solver.old.season question.now base.now) }
+        (IsSolvedGiven solver.old.sheet solver.old.season question.now base.now budget) }
     ensures same_sheet { solver.new.sheet ≡ solver.old.sheet }
     ensures same_season { solver.new.season ≡ solver.old.season }
 {
     let mut task = Task::begin(alloc)?;
     while task.units < budget && task.tree.has_open() {
-        let found = task.work(alloc, solver, question, base)?;
+        let found = task.turn(alloc, solver, question, base, hints)?;
         if let Some(Example { finish, lots }) = found {
             return Ok(Solved::Won(finish, lots));
         }

@@ -11,8 +11,10 @@ ghost use Rattle.what_if.specs.WhenTexts.{IsOutcomeText, IsWhenText, when_row};
 ghost use Rattle.what_if.specs.inside.GivenParts.{IsOpenMatch};
 
 use crate::given::verdicts_by;
+use crate::known_season::KnownSeason;
 use crate::outcome::{Outcome, base_zone};
 use crate::row::when_row;
+use crate::season_part::season_parts;
 use answer_rows::{OutputStop, Verdict, put_items, put_part};
 use branch_rules::ZoneSolver;
 use league_core::{OutOfMemory, Season, Sheet};
@@ -66,14 +68,14 @@ fn put_played<K: Sink>(
     ensures counts { CountsPut (K.faults sink.old) (K.faults sink.new) result }
 {
     match ZoneSolver::new(alloc, played) {
-        Ok(mut solver) => put_outcomes(alloc, played, &mut solver, about, sink),
+        Ok(mut solver) => put_by(alloc, played, &mut solver, about, sink),
         Err(_) => Err(OutputStop::OutOfMemory),
     }
 }
 
-// The same, by one worker for all outcomes. What is said of an outcome is written before the next
-// one is worked on, so that no more of it is in memory than of an ask.
-fn put_outcomes<K: Sink>(
+// The same, by one worker: first on the questions about the season, so that no base is searched
+// for what none of them has.
+fn put_by<K: Sink>(
     alloc: Global,
     played: &Played,
     solver: &mut ZoneSolver,
@@ -88,46 +90,65 @@ fn put_outcomes<K: Sink>(
         (K.holds sink.old) (K.holds sink.new) result }
     ensures counts { CountsPut (K.faults sink.old) (K.faults sink.new) result }
 {
-    let (_sheet, _season) = (played.sheet(), played.season());
-    match put_outcome(alloc, played, solver, about, Outcome::Home, sink) {
+    match season_parts(alloc, played, solver) {
+        Ok(parts) => {
+            let stage = KnownSeason::new(played, parts);
+            put_outcomes(alloc, &stage, solver, about, sink)
+        }
+        Err(_) => Err(OutputStop::OutOfMemory),
+    }
+}
+
+// The same, by one worker for all outcomes. What is said of an outcome is written before the next
+// one is worked on, so that no more of it is in memory than of an ask.
+fn put_outcomes<K: Sink>(
+    alloc: Global,
+    stage: &KnownSeason,
+    solver: &mut ZoneSolver,
+    about: OpenMatch,
+    sink: &mut K,
+) -> Result<(), OutputStop>
+    requires sheet { solver.old.sheet ≡ stage.now.sheet }
+    requires season { solver.old.season ≡ stage.now.season }
+    requires open_match { IsOpenMatch stage.now.sheet stage.now.season about.fixture }
+    ensures text { PutsSomeText
+        (IsWhenText stage.now.sheet stage.now.season about.epoch about.fixture)
+        (K.holds sink.old) (K.holds sink.new) result }
+    ensures counts { CountsPut (K.faults sink.old) (K.faults sink.new) result }
+{
+    let (_sheet, _season) = (stage.sheet(), stage.season());
+    match put_outcome(alloc, stage, solver, about, Outcome::Home, sink) {
         Ok(()) => {}
         Err(stop) => return Err(stop),
     }
-    match put_outcome(alloc, played, solver, about, Outcome::Draw, sink) {
+    match put_outcome(alloc, stage, solver, about, Outcome::Draw, sink) {
         Ok(()) => {}
         Err(stop) => return Err(stop),
     }
-    put_outcome(alloc, played, solver, about, Outcome::Away, sink)
+    put_outcome(alloc, stage, solver, about, Outcome::Away, sink)
 }
 
 // The row of an outcome, and the verdicts given that.
 fn put_outcome<K: Sink>(
     alloc: Global,
-    played: &Played,
+    stage: &KnownSeason,
     solver: &mut ZoneSolver,
     about: OpenMatch,
     outcome: Outcome,
     sink: &mut K,
 ) -> Result<(), OutputStop>
-    requires sheet { solver.old.sheet ≡ played.now.sheet }
-    requires season { solver.old.season ≡ played.now.season }
-    requires open_match { IsOpenMatch played.now.sheet played.now.season about.fixture }
+    requires sheet { solver.old.sheet ≡ stage.now.sheet }
+    requires season { solver.old.season ≡ stage.now.season }
+    requires open_match { IsOpenMatch stage.now.sheet stage.now.season about.fixture }
     ensures text { PutsSomeText
-        (IsOutcomeText played.now.sheet played.now.season about.epoch about.fixture outcome)
+        (IsOutcomeText stage.now.sheet stage.now.season about.epoch about.fixture outcome)
         (K.holds sink.old) (K.holds sink.new) result }
     ensures counts { CountsPut (K.faults sink.old) (K.faults sink.new) result }
     ensures same_sheet { solver.new.sheet ≡ solver.old.sheet }
     ensures same_season { solver.new.season ≡ solver.old.season }
 {
-    match verdicts_if(alloc, played, solver, about.fixture, outcome) {
-        Ok(found) => put_found(
-            alloc,
-            played.sheet(),
-            about,
-            outcome,
-            found.as_slice(),
-            sink,
-        ),
+    match verdicts_if(alloc, stage, solver, about.fixture, outcome) {
+        Ok(found) => put_found(alloc, stage.sheet(), about, outcome, found.as_slice(), sink),
         Err(_) => Err(OutputStop::OutOfMemory),
     }
 }
@@ -135,23 +156,23 @@ fn put_outcome<K: Sink>(
 // The verdicts given that a match ends so.
 fn verdicts_if(
     alloc: Global,
-    played: &Played,
+    stage: &KnownSeason,
     solver: &mut ZoneSolver,
     fixture: u16,
     outcome: Outcome,
 ) -> Result<Vec<Verdict>, OutOfMemory>
-    requires sheet { solver.old.sheet ≡ played.now.sheet }
-    requires season { solver.old.season ≡ played.now.season }
-    requires open_match { IsOpenMatch played.now.sheet played.now.season fixture }
-    ensures answer { IfOk result (λ found. AreVerdictsGiven played.now.sheet played.now.season
+    requires sheet { solver.old.sheet ≡ stage.now.sheet }
+    requires season { solver.old.season ≡ stage.now.season }
+    requires open_match { IsOpenMatch stage.now.sheet stage.now.season fixture }
+    ensures answer { IfOk result (λ found. AreVerdictsGiven stage.now.sheet stage.now.season
         (base_of fixture outcome) found.items) }
-    ensures in_range { IfOk result (λ found. AreInRange played.now.sheet found.items) }
+    ensures in_range { IfOk result (λ found. AreInRange stage.now.sheet found.items) }
     ensures same_sheet { solver.new.sheet ≡ solver.old.sheet }
     ensures same_season { solver.new.season ≡ solver.old.season }
 {
-    let (_sheet, _season) = (played.sheet(), played.season());
+    let (_sheet, _season) = (stage.sheet(), stage.season());
     let base = base_zone(alloc, fixture, outcome)?;
-    verdicts_by(alloc, played, solver, base.literals.as_slice())
+    verdicts_by(alloc, stage, solver, base.literals.as_slice())
 }
 
 // The row of an outcome, and these verdicts.

@@ -1,9 +1,7 @@
 -- What a feeder has read and reported: the season so far, the next entry, and the way through a
 -- round.
-use Rattle.std.proofs.Common.{◌≡◌, ℕ, Bool, List, ◌++◌, ◌∷◌, [], Option, Result, Ok, Err, false}
-use Rattle.std.proofs.Common.{ap, sym, refl, ◌∙◌, inl, subst}
-use Rattle.std.specs.Prelude.{OnOk}
-use Rattle.std.specs.Result.{is_err}
+use Rattle.std.proofs.Common.{◌≡◌, ℕ, Bool, List, ◌++◌, ◌∷◌, [], Option, Result, Ok, Err, false, ap}
+use Rattle.std.proofs.Common.{sym, refl, ◌∙◌, inl, subst}
 use Rattle.league_core.specs.declared.sheet.Sheet.{Sheet}
 use Rattle.league_core.specs.declared.season.Event.{Event}
 use Rattle.league_core.specs.declared.memory.OutOfMemory.{OutOfMemory}
@@ -25,12 +23,6 @@ use Rattle.result_log.proofs.LiveLemmas.{goes-further, goes-nowhere, round-ends}
 use Rattle.result_log.proofs.LastReadLemmas.{round-further, round-stops}
 use Rattle.result_log.proofs.StopLemmas.{stops-there}
 use Rattle.worker_gate.specs.inside.Feeding.{FeedsRound, HasComeOn, IsSeasonReported, ReadsNext}
-
--- what holds of a call that is done, if it is no error
-pub ok-holds : {A E : Type 0} (result : Result A E) (P : Type 0) → is_err result ≡ false
-    → OnOk result P → P
-ok-holds (Ok done) P is holds = holds
-ok-holds (Err stop) P is holds = cc
 
 -- ---- the season reported so far
 

@@ -5,7 +5,7 @@ ghost use Rattle.worker_gate.specs.inside.Workers.{IsCrewFor};
 
 use crate::crew::Crew;
 use crate::gate::Gate;
-use crate::worker::work;
+use crate::worker::run_worker;
 use league_core::OutOfMemory;
 use pool_lock::{Job, WorkBadge};
 use std::alloc::Global;
@@ -43,7 +43,7 @@ pub fn run_all<J: Job + Send + Sync, R: Threads + Wait + Sync, G: Gate + Sync>(
 {
     if slots.len() < 2 {
         if let Some(slot) = slots.first_mut() {
-            work(crew, &mut slot.badge, slot.number);
+            run_slot(crew, slot);
         }
         return;
     }
@@ -56,5 +56,22 @@ pub fn run_all<J: Job + Send + Sync, R: Threads + Wait + Sync, G: Gate + Sync>(
         ||
             requires { IsCrewFor J.sheet crew.now.sheet.now × IsSync R.row × IsSync G.row }
         { run_all(crew, right) },
+    );
+}
+
+// Lets the worker of one slot work. Its end is of no concern to the round: one that is over has
+// nothing left to do, and one without memory has given back what it had in hand.
+fn run_slot<J: Job, R: Wait, G: Gate>(crew: &Crew<J, R, G>, slot: &mut WorkerSlot<J>)
+    requires crew { IsCrewFor J.sheet crew.now.sheet.now }
+{
+    let badge = &mut slot.badge;
+    let _end = run_worker(
+        crew.rt,
+        crew.alloc,
+        crew.sheet,
+        crew.lock,
+        badge,
+        slot.number,
+        crew.gate,
     );
 }

@@ -39,35 +39,23 @@ pub enum WorkerEnd {
 /// before it works, and again before it gives back. A worker with the lock's only badge works in
 /// the pool itself once no event will come: then there are no tickets, and the gate hears of its
 /// work only.
-pub fn run_worker<J: Job, R: Wait, G: Gate>(
-    rt: &R,
+pub fn run_worker<'a, J: Job, R: Wait, G: Gate>(
+    rt: &'a R,
     alloc: Global,
-    sheet: &Sheet,
-    lock: &PoolLock<J>,
+    sheet: &'a Sheet,
+    lock: &'a PoolLock<J>,
     badge: &mut WorkBadge<J>,
     worker: u8,
-    gate: &G,
+    gate: &'a G,
 ) -> WorkerEnd
     requires of_job { sheet.now ≡ J.sheet }
     requires limits { IsWithinLimits sheet.now }
     ensures end { IsEndFor badge.new result }
     ensures begins { IsPrefix badge.old.list badge.new.list }
 {
-    work(&Crew::new(rt, alloc, sheet, lock, gate), badge, worker)
-}
-
-/// The same for a worker of a crew.
-pub fn work<J: Job, R: Wait, G: Gate>(
-    crew: &Crew<J, R, G>,
-    badge: &mut WorkBadge<J>,
-    number: u8,
-) -> WorkerEnd
-    requires crew { IsCrewFor J.sheet crew.now.sheet.now }
-    ensures end { IsEndFor badge.new result }
-    ensures begins { IsPrefix badge.old.list badge.new.list }
-{
+    let crew = &Crew::new(rt, alloc, sheet, lock, gate);
     let worker = WorkerId {
-        number,
+        number: worker,
         is_sole: badge.is_sole(),
     };
     let mut next = take_next(crew, badge, worker);

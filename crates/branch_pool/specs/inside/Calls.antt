@@ -1,4 +1,4 @@
--- What the calls answer, beside the steps that they make: which question comes next, when there is
+-- What the calls answer, beside the steps that they make: which leaf comes next, when there is
 -- nothing to do, and how far a question is.
 use Rattle.std.specs.Prelude.{◌≡◌, ◌≢◌, ℕ, Bool, true, false, ◌&&◌, ◌||◌, ◌==◌, nat_lt}
 use Rattle.std.specs.Prelude.{is_some}
@@ -14,6 +14,7 @@ use Rattle.league_core.specs.search.Zones.{IsZoneFor}
 use Rattle.league_core.specs.search.Options.{has_finish}
 use Rattle.league_core.specs.search.Trees.{Tree, is_refuted}
 use Rattle.reason_core.specs.declared.finding.Finding.{Finding}
+use Rattle.tree_reuse.specs.inside.Calls.{IsFirstLent}
 use Rattle.branch_pool.specs.declared.question_state.Example.{Example}
 use Rattle.branch_pool.specs.declared.discarded.Discarded.{Discarded}
 use Rattle.branch_pool.specs.declared.question_state.QuestionState.{QuestionState}
@@ -44,10 +45,12 @@ next_place pool =
 abbrev pub may_go_on : PoolView → Bool
 may_go_on pool = pool.is_open || nat_lt 0 (out_count pool.loans)
 
--- a leaf of the question that comes next is lent
+-- the leaf that comes next is lent: it is of the question that comes next, the first of its tree
+-- that is open, depth first, the half where a test is true first
 pub record LendsNext (old : PoolView) (ticket : Ticket) (new : PoolView) : Type 0 where
   pub takes : TakesLeaf old ticket new
   pub next : next_place old ≡ Some ticket.place
+  pub first : IsFirstLent ticket.number takes.tree
 
 -- there is no work now, and the pool is as before
 pub record HasNoWork (old : PoolView) (goes_on : Bool) (new : PoolView) : Type 0 where

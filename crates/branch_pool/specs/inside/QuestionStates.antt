@@ -11,17 +11,18 @@ use Rattle.league_core.specs.inside.Lending.{lent_count, lent_zones, put, times_
 use Rattle.reason_core.specs.declared.finding.Finding.{Finding}
 use Rattle.reason_core.specs.inside.Findings.{IsTrueFinding}
 use Rattle.league_core.specs.game.Results.{Results}
-use Rattle.tree_reuse.specs.inside.Calls.{AreTestsOf, most_nodes}
+use Rattle.tree_reuse.specs.inside.Calls.{AreTestsOf, IsFirstLent, most_nodes}
 use Rattle.tree_reuse.specs.inside.Retargets.{retargeted}
 use Rattle.branch_pool.specs.declared.question_state.QuestionState.{QuestionState}
 use Rattle.branch_pool.specs.declared.question_state.Loan.{Loan}
 use Rattle.branch_pool.specs.inside.Steps.{seat_lent, seat_after}
 
--- one leaf that was open is lent under the number, and both zones are its zone
+-- the first leaf that was open is lent under the number, and both zones are its zone
 pub record LendsSeat (number : ℕ) (old new : QuestionState) (zone other : Zone) : Type 0 where
   pub is : new ≡ seat_lent new.tree old
   pub leaf : put number open_leaf new.tree ≡ old.tree
   pub lent : lent_zones number [] new.tree ≡ zone.literals ∷ []
+  pub first : IsFirstLent number new.tree
   pub same : other ≡ zone
 
 -- its tests are of the sheet, and so is its club
@@ -50,7 +51,7 @@ pub record MayLend (number : ℕ) (seat : QuestionState) : Type 0 where
   pub fits : seat.lent + 1 < 2 ^ 32
   pub units_fit : seat.units + 1 < 2 ^ 32
 
--- one open leaf of a question was worked on, and what was found there is true
+-- the first open leaf of a question was worked on, and what was found there is true
 pub record WorksSeat (sheet : Sheet) (season : Results) (number : ℕ) (old new : QuestionState)
     : Type 0 where
   pub tree : Tree
@@ -58,6 +59,7 @@ pub record WorksSeat (sheet : Sheet) (season : Results) (number : ℕ) (old new 
   pub finding : Finding
   pub leaf : put number open_leaf tree ≡ old.tree
   pub lent : lent_zones number [] tree ≡ zone ∷ []
+  pub first : IsFirstLent number tree
   pub found : IsTrueFinding sheet season old.question zone finding
   pub is : new ≡ seat_after number (Some finding) (seat_lent tree old)
 

@@ -92,8 +92,8 @@ IsWorked (Split piece literal) = Unit {0}
 IsWorked (Won piece finish lots) = Unit {0}
 IsWorked Undone = ⊥
 
--- a turn of work is a take and then a give: a leaf of the question that comes next is taken, as
--- `take` does, and what was done with it is kept
+-- a turn of work is a take and then a give: the leaf that comes next is taken, as `take` does, and
+-- what was done with it is kept
 pub record WorksNext (old new : PoolView) : Type 0 where
   pub ticket : Ticket
   pub done : Done

@@ -1,6 +1,6 @@
 -- The steps of a pool: what is taken, what is given back, what is reported. Whatever a step does
 -- not name stays as it was, the sheet and the questions always. Which open leaf is lent is left
--- free.
+-- free here; `Calls.antt` says which one a call lends.
 use Rattle.std.specs.Prelude.{◌≡◌, ◌<◌, ℕ, ◌+◌, ◌-◌, Bool, true, false, ◌&&◌, IsTrue, ◌⊎◌, List}
 use Rattle.std.specs.Prelude.{[], ◌∷◌, ◌++◌, length, map, Option, Some, None, slice_set, bytes_eq}
 use Rattle.std.specs.Prelude.{if◌then◌else◌}

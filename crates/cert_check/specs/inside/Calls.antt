@@ -24,7 +24,7 @@ use Rattle.cert_check.specs.declared.expected.TreeKind.{TreeKind}
 use Rattle.cert_check.specs.Tokens.{counts, counted_lines}
 use Rattle.cert_check.specs.LineLists.{NumberedLine, tokens_of, line_number_at}
 use Rattle.cert_check.specs.declared.token.Token.TheVariants.{Blank, Row, Proof, Unknown}
-use Rattle.cert_check.specs.declared.item.Item.{Item}
+use Rattle.cert_check.specs.declared.item.PartRead.{PartRead}
 use Rattle.cert_check.specs.declared.tree.TreeSpec.{TreeSpec}
 use Rattle.cert_check.specs.declared.tree.Walk.{Walk}
 use Rattle.cert_check.specs.ExpectedItems.{Basis, Expected, verdict_row, nodes, dues_of_word, Next}
@@ -251,7 +251,7 @@ GoesAfter judged from wanted (Ok at) =
 GoesAfter judged from wanted (Err stop) = AllHalt judged from wanted stop
 
 -- items are shown, with so many unsettled rows among them, or the reading stops
-abbrev pub GoesOverAll : ReportView → ℕ → List Expected → Result Item CheckStopAt → Type 0
+abbrev pub GoesOverAll : ReportView → ℕ → List Expected → Result PartRead CheckStopAt → Type 0
 GoesOverAll judged from wanted (Ok found) =
     (found.next ≤ length judged.tokens)
     × ((dues : List Expected) (unsettled : ℕ)
@@ -260,7 +260,7 @@ GoesOverAll judged from wanted (Ok found) =
 GoesOverAll judged from wanted (Err stop) = AllHalt judged from wanted stop
 
 -- one item is
-abbrev pub GoesOverItem : ReportView → ℕ → ℕ → ℕ → Result Item CheckStopAt → Type 0
+abbrev pub GoesOverItem : ReportView → ℕ → ℕ → ℕ → Result PartRead CheckStopAt → Type 0
 GoesOverItem judged from line club result =
     GoesOverAll judged from (verdict_row line club ∷ []) result
 

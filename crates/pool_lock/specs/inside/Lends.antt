@@ -44,7 +44,7 @@ LendsWorkAfter sheet events (Work ticket) = IsWorkAfter sheet events ticket
 LendsWorkAfter sheet events Over = Unit {0}
 
 -- the ticket is what `take` lends from some pool of this sheet and these questions, of which these
--- events are the log: under its least free number, for the question that comes next there
+-- events are the log: under its least free number, for the leaf that comes next there
 pub record IsTakenFrom (sheet : Sheet) (questions : List Question) (events : List Event)
     (ticket : Ticket) : Type 0 where
   pub pool : PoolView

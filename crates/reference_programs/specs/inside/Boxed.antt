@@ -12,7 +12,7 @@ use Rattle.league_core.specs.search.Zones.{is_test_of}
 use Rattle.league_core.specs.declared.tree.TreeNode.{TreeNode}
 use Rattle.league_core.specs.declared.tree.TreeNode.TheVariants as node
 use Rattle.league_core.specs.inside.TreeLists.{with_node}
-use Rattle.tree_reuse.specs.inside.Calls.{LendsLeaf}
+use Rattle.tree_reuse.specs.inside.Calls.{IsFirstLent}
 use Rattle.reference_programs.specs.declared.boxed.Node.{Node}
 use Rattle.reference_programs.specs.declared.boxed.Node.TheVariants.{Open, Lent, Refuted, Split}
 
@@ -38,11 +38,12 @@ depth (lent_leaf number) = 1
 depth (refuted_leaf reason fresh) = 0
 depth (branch test fresh yes_half no_half) = 1 + max (depth yes_half) (depth no_half)
 
--- what looking for a leaf to lend did to a node with this zone: it lent one whose zone the way now
--- is, or there was none
+-- what looking for a leaf to lend did to a node with this zone: it lent the first open one, whose
+-- zone the way now is, or there was none
 abbrev pub LendsBelow : ℕ → Tree → Tree → List Literal → List Literal → Bool → Type 0
 LendsBelow number old new zone way true =
     (put number open_leaf new ≡ old) × (lent_zones number zone new ≡ way ∷ [])
+    × IsFirstLent number new
 LendsBelow number old new zone way false = (new ≡ old) × (has_open old ≡ false) × (way ≡ zone)
 
 -- the same of one half, to which this literal leads
@@ -50,6 +51,7 @@ abbrev pub LendsHalf :
     ℕ → Tree → Tree → List Literal → Literal → List Literal → Bool → Type 0
 LendsHalf number old new zone literal way true =
     (put number open_leaf new ≡ old) × (lent_zones number (zone ++ literal ∷ []) new ≡ way ∷ [])
+    × IsFirstLent number new
 LendsHalf number old new zone literal way false =
     (new ≡ old) × (has_open old ≡ false) × (way ≡ zone)
 
@@ -68,11 +70,9 @@ LendsAt number old new way zone true =
 LendsAt number old new way zone false =
     (new ≡ old) × NodesMeet (IsOpenElsewhere zone) way old
 
--- the open leaf of a zone was lent as `lend` does; or no open leaf has this zone
+-- the same from the root on
 abbrev pub LendsThere : ℕ → Tree → Tree → List Literal → Bool → Type 0
-LendsThere number old new zone true = LendsLeaf number old new zone
-LendsThere number old new zone false =
-    (new ≡ old) × NodesMeet (IsOpenElsewhere zone) [] old
+LendsThere number old new zone is_there = LendsAt number old new [] zone is_there
 
 -- a lent leaf becomes a new split over its two boxes, any other node stays
 abbrev pub SplitsNode : Node → Test → Node → Type 0

@@ -3,6 +3,7 @@
 use Rattle.std.specs.Prelude.{◌≡◌, ℕ, suc, ◌+◌, ◌-◌, ◌*◌, ◌<◌, ◌≤◌, Bool, true, false, ◌==◌}
 use Rattle.std.specs.Prelude.{sum_by, Option, Some, None, slice_set}
 use Rattle.std.specs.Prelude.{List, [], ◌∷◌, ◌++◌, length, map, if◌then◌else◌, slice_index_or}
+use Rattle.std.specs.Prelude.{reverse}
 use Rattle.league_core.specs.declared.tree.TreeNode.{TreeNode}
 use Rattle.league_core.specs.declared.tree.TreeNode.TheVariants.{Open as open_node}
 use Rattle.league_core.specs.declared.tree.TreeNode.TheVariants.{Lent as lent_node}
@@ -17,6 +18,7 @@ use Rattle.league_core.specs.declared.zone.Literal.{Literal}
 use Rattle.league_core.specs.inside.Lending.{lent_zones}
 use Rattle.tree_reuse.specs.declared.node.Node.{Node}
 use Rattle.tree_reuse.specs.declared.node.TheConstants.{MOST_NUMBERS}
+use Rattle.tree_reuse.specs.inside.Order.{live_in}
 
 -- the tree below a node, by the trees of the nodes after it
 abbrev pub shape_over : Kind → List Tree → Tree
@@ -159,13 +161,39 @@ pub record IsLeafAt (number : ℕ) (nodes : List Node) (lent_list : List ℕ) (p
   pub in_nodes : leaf < length nodes
   pub kind : (default : Node) → (slice_index_or nodes leaf default).kind ≡ Lent number
 
--- what always holds of an arena that has room for each lent leaf to come back as a split
-pub record IsRoomy (nodes : RoomyListView Node) (open_list lent_list : RoomyListView ℕ) : Type 0
-  where
-    pub arena : IsArena nodes.items open_list.items lent_list.items
-    pub few : length nodes.items + 2 * length lent_list.items ≤ MOST_NUMBERS
-    pub node_room : 2 * length lent_list.items ≤ nodes.room
-    pub open_room : 2 * length lent_list.items ≤ open_list.room
+-- what always holds of an arena that has room for each lent leaf to come back as a split: one list
+-- has the leaves that are open or lent, in the order of the tree, with the first one last
+pub record IsRoomy (nodes : RoomyListView Node) (live lent : RoomyListView ℕ) : Type 0 where
+  pub opens : List ℕ
+  pub arena : IsArena nodes.items opens lent.items
+  pub order : live_in nodes.items ≡ reverse live.items
+  pub few : length nodes.items + 2 * length lent.items ≤ MOST_NUMBERS
+  pub node_room : 2 * length lent.items ≤ nodes.room
+  pub live_room : length lent.items ≤ live.room
+
+-- a leaf that may come back, or may be lent: it is open or lent
+abbrev pub IsLiveKind : Kind → Type 0
+IsLiveKind Open = Unit {0}
+IsLiveKind (Lent number) = Unit {0}
+IsLiveKind (Refuted reason fresh) = ⊥
+IsLiveKind (Split test fresh half) = ⊥
+
+-- how many of these nodes are open
+abbrev pub opens_among : List Node → List ℕ → ℕ
+opens_among nodes list =
+    sum_by (λ at. open_mark (slice_index_or nodes at (record {
+      kind = Open;
+      parent = 0;
+      yes = false;
+    })).kind) list
+
+-- the list has an open leaf at this place, and none after it
+pub record IsLastOpen (nodes : List Node) (list : List ℕ) (place : ℕ) : Type 0 where
+  pub in_list : place < length list
+  pub kind : (default : Node)
+      → (slice_index_or nodes (slice_index_or list place 0) default).kind ≡ Open
+  pub none_after : (after : ℕ) (default : Node) → place < after → after < length list
+      → open_mark (slice_index_or nodes (slice_index_or list after 0) default).kind ≡ 0
 
 -- one leaf below is lent under the number, and this way leads to it
 pub record IsPathTo (number : ℕ) (tree : Tree) (zone_box : List Literal) : Type 0 where
@@ -258,6 +286,13 @@ open_taken open_node at opens = opens ++ at ∷ []
 open_taken (lent_node number) at opens = opens
 open_taken (refuted_node reason fresh) at opens = opens
 open_taken (split_node test fresh) at opens = opens
+
+-- the leaves that are open or lent then
+abbrev pub live_taken : TreeNode → ℕ → List ℕ → List ℕ
+live_taken open_node at live = live ++ at ∷ []
+live_taken (lent_node number) at live = live ++ at ∷ []
+live_taken (refuted_node reason fresh) at live = live
+live_taken (split_node test fresh) at live = live
 
 -- the lent leaves then
 abbrev pub lent_taken : TreeNode → ℕ → List ℕ → List ℕ

@@ -49,8 +49,8 @@ pub record AreClimbing (nodes : List Node) (to one other : ℕ) (zone_box hand :
         → LeadsToNode nodes (hand ++ before) to
 
 -- what always holds of a tree's lists, and of the way that it keeps
-pub record KeepsPath (nodes : RoomyListView Node) (waiting lent : RoomyListView ℕ)
+pub record KeepsPath (nodes : RoomyListView Node) (live lent : RoomyListView ℕ)
     (zone_box : List Literal) (last : ℕ)
     : Type 0 where
-  pub roomy : IsRoomy nodes waiting lent
+  pub roomy : IsRoomy nodes live lent
   pub leads : LeadsToNode nodes.items (reverse zone_box) last

@@ -1,5 +1,5 @@
 -- A question that is worked on from its root on, given a zone, and what comes of it.
-use Rattle.std.specs.Prelude.{◌≡◌, ◌≤◌, ◌+◌, ◌*◌, IsTrue, List, Option, Some, None}
+use Rattle.std.specs.Prelude.{◌≡◌, ℕ, ◌≤◌, ◌+◌, ◌*◌, IsTrue, List, Option, Some, None}
 use Rattle.league_core.specs.declared.sheet.Sheet.{Sheet}
 use Rattle.league_core.specs.declared.question.Question.{Question}
 use Rattle.league_core.specs.declared.zone.Literal.{Literal}
@@ -33,12 +33,12 @@ WorksTask sheet season question base old new None =
 WorksTask sheet season question base old new (Some example) =
     IsExampleIn sheet season question base example.finish example.lots
 
--- an example that is a member of the base; or there is none; or a tree below the base on which the
--- whole budget was spent fairly
-abbrev pub IsSolvedGiven : Sheet → Results → Question → List Literal → Solved → Type 0
-IsSolvedGiven sheet season question base (Won finish lots) =
+-- an example that is a member of the base; or there is none; or a tree below the base on which so
+-- many units were spent fairly
+abbrev pub IsSolvedGiven : Sheet → Results → Question → List Literal → ℕ → Solved → Type 0
+IsSolvedGiven sheet season question base budget (Won finish lots) =
     IsExampleIn sheet season question base finish lots
-IsSolvedGiven sheet season question base (Refuted tree) =
+IsSolvedGiven sheet season question base budget (Refuted tree) =
     HoldsNowhereIn sheet season question base
-IsSolvedGiven sheet season question base (Spent tree) =
-    IsFairlySpentBelow sheet season question base sheet.budget tree
+IsSolvedGiven sheet season question base budget (Spent tree) =
+    IsFairlySpentBelow sheet season question base budget tree

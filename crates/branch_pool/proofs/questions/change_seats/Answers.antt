@@ -1,8 +1,8 @@
 use Rattle.std.proofs.Common.{arith, ◌∙◌}
 use Rattle.branch_pool.specs.inside.QuestionStates.{tree_for}
 use Rattle.branch_pool.specs.inside.Steps.{seat_changed}
-use Rattle.branch_pool.proofs.SlotLemmas.{drop_more, drop_written, each_step}
 use Rattle.branch_pool.proofs.questions.change_seats.Goals as goal
+use Rattle.league_core.proofs.plain.Slots.{drop_more, drop_written, each_step}
 
 pub loop-place-preserved : goal.loop-place-preserved
 loop-place-preserved c = (

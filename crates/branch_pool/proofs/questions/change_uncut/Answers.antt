@@ -1,7 +1,7 @@
 use Rattle.std.proofs.Common.{◌∙◌, arith}
 use Rattle.branch_pool.specs.inside.Steps.{seat_changed}
-use Rattle.branch_pool.proofs.SlotLemmas.{each_step, still_there}
 use Rattle.branch_pool.proofs.questions.change_uncut.Goals as goal
+use Rattle.league_core.proofs.plain.Slots.{each_step, still_there}
 
 pub change_uncut-requires : goal.change_uncut-requires
 change_uncut-requires c =

@@ -1,7 +1,7 @@
 use Rattle.std.proofs.Common.{arith}
 use Rattle.branch_pool.specs.inside.Steps.{seat_recalled}
-use Rattle.branch_pool.proofs.SlotLemmas.{each_step}
 use Rattle.branch_pool.proofs.questions.recall_seats.Goals as goal
+use Rattle.league_core.proofs.plain.Slots.{each_step}
 
 pub loop-place-preserved : goal.loop-place-preserved
 loop-place-preserved c =

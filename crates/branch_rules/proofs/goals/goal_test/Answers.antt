@@ -1,14 +1,13 @@
-use Rattle.std.proofs.Common.{◌<◌, IsTrue, List, ℕ, length, get_or, [], subst, sym, ap}
-use Rattle.std.proofs.Common.{arith}
+use Rattle.std.proofs.Common.{◌<◌, IsTrue, List, ℕ, length, get_or, [], subst, sym, ap, arith}
 use Rattle.league_core.specs.search.Options.{has_one_outcome, has_one_score, is_single, options_in}
 use Rattle.score_box.specs.inside.Unplayed.{unplayed_in}
 use Rattle.score_box.proofs.SplitLemmas.{unplayed_in_range}
-use Rattle.league_core.proofs.PlainLemmas.{list_all-at}
 use Rattle.league_core.proofs.OptionLemmas.{length-options_from}
 use Rattle.branch_rules.specs.inside.Choices.{options_at_fixture}
 use Rattle.branch_rules.proofs.RatedLemmas.{test_of_none}
 use Rattle.branch_rules.proofs.GoalTestLemmas.{scores_fixed}
 use Rattle.branch_rules.proofs.goals.goal_test.Goals as goal
+use Rattle.league_core.proofs.plain.Lists.{list_all-at}
 
 pub rated_goals-requires-clause-in_range : goal.rated_goals-requires-clause-in_range
 rated_goals-requires-clause-in_range c =

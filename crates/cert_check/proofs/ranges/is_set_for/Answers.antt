@@ -3,10 +3,10 @@ use Rattle.std.specs.List.{list_all}
 use Rattle.std.proofs.Math.Bool.{or-false}
 use Rattle.league_core.specs.game.Sums.{has_club}
 use Rattle.league_core.specs.game.ClubSets.{clubs_in}
-use Rattle.league_core.proofs.PlainLemmas.{eqb-swap}
 use Rattle.league_core.proofs.ClubSetLemmas.{has_club-range}
 use Rattle.league_core.proofs.ClubLemmas.{has_member-not_empty, list_all-rest_empty}
 use Rattle.cert_check.proofs.ranges.is_set_for.Goals as goal
+use Rattle.league_core.proofs.plain.Numbers.{eqb-swap}
 
 pub returns-then-not-is_empty : goal.returns-then-not-is_empty
 returns-then-not-is_empty c =

@@ -1,6 +1,6 @@
 use Rattle.std.proofs.Common.{rules, ◌∙◌}
-use Rattle.cert_text.proofs.PlainNumberLemmas.{digits_more}
 use Rattle.cert_text.proofs.plain_number.+more_digits.Goals as goal
+use Rattle.league_core.proofs.plain.Texts.{digits_more}
 
 pub returns-in-Some-digit-clause-digits : goal.returns-in-Some-digit-clause-digits
 returns-in-Some-digit-clause-digits t c =

@@ -1,7 +1,7 @@
 use Rattle.std.proofs.lemmas.Bool.Decides.{Decides-eqb}
 use Rattle.std.proofs.lemmas.Slice.Eq.{strip_prefix_is}
-use Rattle.cert_text.proofs.PlainNumberLemmas.{where_some}
 use Rattle.cert_text.proofs.plain_number.behind.Goals as goal
+use Rattle.league_core.proofs.plain.Options.{where_some}
 
 pub returns : goal.returns
 returns c =

@@ -1,6 +1,6 @@
 use Rattle.std.proofs.Common.{rules, ◌∙◌}
-use Rattle.cert_text.proofs.PlainNumberLemmas.{digits_one}
 use Rattle.cert_text.proofs.plain_number.digits.Goals as goal
+use Rattle.league_core.proofs.plain.Texts.{digits_one}
 
 pub returns : goal.returns
 returns c = (

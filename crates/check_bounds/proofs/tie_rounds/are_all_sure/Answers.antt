@@ -3,8 +3,8 @@ use Rattle.league_core.specs.game.Sums.{has_club}
 use Rattle.league_core.specs.game.ClubSets.{clubs_in}
 use Rattle.league_core.proofs.ClubSetLemmas.{clubs_below-filter_all}
 use Rattle.check_bounds.specs.inside.Steps.{is_sure_by_tables}
-use Rattle.check_bounds.proofs.StepLemmas.{all_pass-none_fails}
 use Rattle.check_bounds.proofs.tie_rounds.are_all_sure.Goals as goal
+use Rattle.league_core.proofs.plain.Filters.{all_pass-none_fails}
 
 pub returns : goal.returns
 returns c =

@@ -3,11 +3,11 @@ use Rattle.std.proofs.lemmas.List.{get_or_default}
 use Rattle.league_core.specs.game.ClubSets.{clubs_in}
 use Rattle.league_core.specs.game.Sheets.{is_fixture}
 use Rattle.league_core.specs.search.PointRanges.{points_together, points_of_sides, range_of}
-use Rattle.league_core.proofs.PlainLemmas.{list_all-at}
 use Rattle.league_core.proofs.FixtureLemmas.{clubs_apart}
 use Rattle.check_bounds.proofs.IntRangeLemmas.{near_plus, near_wider}
 use Rattle.check_bounds.proofs.TableLemmas.{sum_more, together_by_ends}
 use Rattle.check_bounds.proofs.total.won_by.Goals as goal
+use Rattle.league_core.proofs.plain.Lists.{list_all-at}
 
 pub plus-won-requires-clause-near : goal.plus-won-requires-clause-near
 plus-won-requires-clause-near c =

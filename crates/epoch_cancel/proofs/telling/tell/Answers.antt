@@ -1,12 +1,12 @@
-use Rattle.std.proofs.Common.{rules, arith, refl, ◌≡◌, sym, ap, ◌∙◌, subst, ◌+◌, ◌≤◌, length}
-use Rattle.std.proofs.Common.{[], ◌∷◌, ◌++◌, length-append}
+use Rattle.std.proofs.Common.{rules, arith, refl, ◌≡◌, sym, ap, ◌∙◌, subst, ◌+◌, ◌≤◌, length, []}
+use Rattle.std.proofs.Common.{◌∷◌, ◌++◌, length-append}
 use mathlib.Core.List.{IsPrefix}
 use Rattle.epoch_cancel.specs.inside.Views.{view_told, view_noted, view_longer}
-use Rattle.epoch_cancel.proofs.PrefixLemmas.{prefix_alike}
 use Rattle.epoch_cancel.proofs.PackLemmas.{is_pack}
 use Rattle.epoch_cancel.proofs.ViewLemmas.{longer_of-longer}
 use Rattle.epoch_cancel.proofs.MoveLemmas.{stores, copies, takes_longer, compares}
 use Rattle.epoch_cancel.proofs.telling.tell.Goals as goal
+use Rattle.league_core.proofs.plain.Prefixes.{prefix_alike}
 
 pub store-requires : goal.store-requires
 store-requires c = (

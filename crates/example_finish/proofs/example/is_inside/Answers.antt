@@ -1,5 +1,4 @@
-use Rattle.std.proofs.Common.{◌≡◌, ◌<◌, ◌≤◌, ℕ, IsTrue, length, nat_le, sym, ap}
-use Rattle.std.proofs.Common.{◌∙◌, subst, arith}
+use Rattle.std.proofs.Common.{◌≡◌, ◌<◌, ◌≤◌, ℕ, IsTrue, length, nat_le, sym, ap, ◌∙◌, subst, arith}
 use Rattle.std.proofs.lemmas.Bool.{le-leb}
 use Rattle.league_core.specs.declared.question.Question.{Question}
 use Rattle.league_core.specs.declared.club_set.ClubSet.{ClubSet}
@@ -13,8 +12,9 @@ use Rattle.example_finish.specs.inside.ProposalViews.{sheet_asked, finish_asked}
 use Rattle.example_finish.specs.inside.GroupStandings.{IsStandingOf, by_points_in}
 use Rattle.example_finish.proofs.GroupStandingLemmas.{standing_without_lots, itself_by_points}
 use Rattle.example_finish.proofs.GroupStandingLemmas.{level_in_group}
-use Rattle.example_finish.proofs.PlaceLemmas.{behind_by_points, before_by_points, no_le}
+use Rattle.example_finish.proofs.PlaceLemmas.{behind_by_points, before_by_points}
 use Rattle.example_finish.proofs.example.is_inside.Goals as goal
+use Rattle.league_core.proofs.plain.Numbers.{not_le}
 
 pub returns-then-question-len : goal.returns-then-question-len
 returns-then-question-len c =
@@ -28,7 +28,7 @@ returns-then-question-len c =
     c.stand_by_points-tier.result limits c.stand_by_points-tier.ensures in
     let line : c.question-question.result.now.line ≡ q.line =
     ap (λ (p : Question). p.line) c.question-question.ensures.value in
-    sym (no_le (place_of sheet (finish_asked asked) lots q.club) q.line
+    sym (not_le (place_of sheet (finish_asked asked) lots q.club) q.line
     (omega (arith, behind, line, c.len.ensures)))
 
 pub returns-then-len-question : goal.returns-then-len-question

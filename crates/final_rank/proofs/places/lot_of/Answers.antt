@@ -1,7 +1,7 @@
 use Rattle.std.proofs.Common.{◌==◌, length, unwrap_or, ap, ◌∙◌}
 use Rattle.league_core.specs.game.Ranking.{lot_of}
-use Rattle.final_rank.proofs.TableLemmas.{unwrap_or-position}
 use Rattle.final_rank.proofs.places.lot_of.Goals as goal
+use Rattle.league_core.proofs.plain.Places.{unwrap_or-position}
 
 pub returns : goal.returns
 returns c =

@@ -2,11 +2,10 @@ use Rattle.std.proofs.Common.{◌≡◌, ◌+◌, ◌≤◌, ◌&&◌, ◌||◌,
 use Rattle.league_core.specs.game.Sums.{has_club}
 use Rattle.league_core.specs.game.ClubSets.{clubs_in}
 use Rattle.league_core.specs.game.Ranking.{ranks_before, lot_of}
-use Rattle.league_core.proofs.PlainLemmas.{one_if-most}
-use Rattle.league_core.proofs.ClubCountLemmas.{count_by-range_suc}
-use Rattle.final_rank.proofs.TableLemmas.{bool_byte-is}
 use Rattle.final_rank.proofs.TierLemmas.{ranks_before-around}
 use Rattle.final_rank.proofs.places.place.Goals as goal
+use Rattle.league_core.proofs.plain.TruthValues.{one_if-most, bool_byte-is}
+use Rattle.league_core.proofs.plain.Counts.{count_by-range_suc}
 
 pub loop-other-preserved : goal.loop-other-preserved
 loop-other-preserved c =

@@ -1,8 +1,8 @@
 use Rattle.std.proofs.Common.{◌∙◌, ap, sym, position, bytes_eq, option_and_then}
 use Rattle.league_core.specs.declared.sheet.Club.{Club}
 use Rattle.fixture_sheet.specs.Records.{names_of}
-use Rattle.fixture_sheet.proofs.NameLemmas.{position-map}
 use Rattle.fixture_sheet.proofs.club_number.club_named.Goals as goal
+use Rattle.league_core.proofs.plain.Lists.{position-map}
 
 pub returns-in-None-clause-place : goal.returns-in-None-clause-place
 returns-in-None-clause-place c =

@@ -1,8 +1,8 @@
 use Rattle.std.proofs.Common.{◌∙◌, ap, sym, bytes_eq}
 use Rattle.std.specs.List.{list_any}
 use Rattle.league_core.specs.declared.sheet.Club.{Club}
-use Rattle.fixture_sheet.proofs.NameLemmas.{list_any-map}
 use Rattle.fixture_sheet.proofs.club_number.has_name.Goals as goal
+use Rattle.league_core.proofs.plain.Lists.{list_any-map}
 
 pub returns : goal.returns
 returns c =

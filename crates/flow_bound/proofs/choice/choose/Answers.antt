@@ -11,7 +11,7 @@ use Rattle.flow_bound.proofs.PeelLemmas.{none_left}
 use Rattle.flow_bound.proofs.SetLemmas.{no_club_left}
 use Rattle.flow_bound.proofs.SpareLemmas.{IsFirstOver-whole, KeepsExcess-both, NoneOver-whole}
 use Rattle.flow_bound.proofs.choice.choose.Goals as goal
-use Rattle.league_core.proofs.PlainLemmas.{err-holds}
+use Rattle.league_core.proofs.plain.Options.{err-holds}
 
 pub returns-then-is_empty-clause-answer : goal.returns-then-is_empty-clause-answer
 returns-then-is_empty-clause-answer c =

@@ -6,16 +6,16 @@ use Rattle.std.proofs.lemmas.Int.{ints}
 use Rattle.league_core.specs.game.ClubSets.{clubs_in}
 use Rattle.league_core.specs.search.PointRanges.{own_least}
 use Rattle.league_core.specs.search.Zones.{marked_before}
-use Rattle.league_core.proofs.PlainLemmas.{err-holds}
 use Rattle.flow_bound.specs.declared.cut.Cut.TheVariants.{Ceiling}
 use Rattle.flow_bound.specs.inside.Excess.{high_excess}
 use Rattle.flow_bound.specs.inside.Fixtures.{pairs_in}
 use Rattle.flow_bound.proofs.ChosenLemmas.{GivesExcess}
-use Rattle.flow_bound.proofs.CutLemmas.{chosen_found, high_excess-is, ceiling_fails}
-use Rattle.flow_bound.proofs.CutLemmas.{ceiling_found, nothing_exceeds, ceiling_unmarked}
+use Rattle.flow_bound.proofs.CutLemmas.{chosen_found, high_excess-is, ceiling_fails, ceiling_found}
+use Rattle.flow_bound.proofs.CutLemmas.{nothing_exceeds, ceiling_unmarked}
 use Rattle.flow_bound.proofs.NeededLemmas.{left_open_is}
 use Rattle.flow_bound.proofs.SetLemmas.{no_club_left}
 use Rattle.flow_bound.proofs.cut.high_cut_from.Goals as goal
+use Rattle.league_core.proofs.plain.Options.{err-holds}
 
 pub returns-clause-found : goal.returns-clause-found
 returns-clause-found c =

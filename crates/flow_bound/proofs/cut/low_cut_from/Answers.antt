@@ -6,7 +6,6 @@ use Rattle.std.proofs.lemmas.Int.{ints}
 use Rattle.league_core.specs.game.ClubSets.{clubs_in}
 use Rattle.league_core.specs.search.PointRanges.{own_most}
 use Rattle.league_core.specs.search.Zones.{marked_after}
-use Rattle.league_core.proofs.PlainLemmas.{err-holds}
 use Rattle.flow_bound.specs.declared.cut.Cut.TheVariants.{Floor}
 use Rattle.flow_bound.specs.inside.Excess.{low_excess}
 use Rattle.flow_bound.specs.inside.Fixtures.{pairs_in}
@@ -16,6 +15,7 @@ use Rattle.flow_bound.proofs.CutLemmas.{nothing_exceeds, floor_unmarked}
 use Rattle.flow_bound.proofs.NeededLemmas.{left_open_is}
 use Rattle.flow_bound.proofs.SetLemmas.{no_club_left}
 use Rattle.flow_bound.proofs.cut.low_cut_from.Goals as goal
+use Rattle.league_core.proofs.plain.Options.{err-holds}
 
 pub returns-clause-found : goal.returns-clause-found
 returns-clause-found c =

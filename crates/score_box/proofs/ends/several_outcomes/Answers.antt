@@ -1,12 +1,11 @@
 -- The next cell counts if it has several outcomes.
-use Rattle.std.proofs.Common.{◌≡◌, ◌<◌, not, cond, [], length, get_or, List}
-use Rattle.std.proofs.Common.{sym, ap, ◌∙◌, arith}
+use Rattle.std.proofs.Common.{◌≡◌, ◌<◌, not, cond, [], length, get_or, List, sym, ap, ◌∙◌, arith}
 use Rattle.league_core.specs.declared.season.Score.{Score}
 use Rattle.league_core.specs.search.Options.{has_one_outcome}
-use Rattle.league_core.proofs.PlainLemmas.{one_if-most}
 use Rattle.score_box.proofs.EndLemmas.{count_more, outcome_is}
 use Rattle.score_box.proofs.LeftLemmas.{one_left, left_one}
 use Rattle.score_box.proofs.ends.several_outcomes.Goals as goal
+use Rattle.league_core.proofs.plain.TruthValues.{one_if-most}
 
 pub left-requires : goal.left-requires
 left-requires c = c.requires.1.exact c.loop-cell.cell-index _ c.loop-cell-test.true

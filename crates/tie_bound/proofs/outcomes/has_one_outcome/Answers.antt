@@ -2,8 +2,8 @@
 use Rattle.std.proofs.Common.{◌==◌, ap, ◌∙◌}
 use Rattle.league_core.specs.search.Options.{has_one_outcome}
 use Rattle.tie_bound.specs.inside.Boxes.{options_in_box}
-use Rattle.score_box.proofs.EndLemmas.{all_counted}
 use Rattle.tie_bound.proofs.outcomes.has_one_outcome.Goals as goal
+use Rattle.league_core.proofs.plain.Counts.{all_counted}
 
 pub returns : goal.returns
 returns c =

@@ -1,13 +1,12 @@
 -- Each match that is not played is one of the sheet, has one outcome, and adds what it leaves.
-use Rattle.std.proofs.Common.{◌≡◌, ◌≢◌, ℕ, ◌<◌, ◌+◌, ◌*◌, List, [], length, get_or, subst, sym}
-use Rattle.std.proofs.Common.{ap, ◌∙◌, arith}
+use Rattle.std.proofs.Common.{◌≡◌, ◌≢◌, ℕ, ◌<◌, ◌+◌, ◌*◌, List, [], length, get_or, subst, sym, ap}
+use Rattle.std.proofs.Common.{◌∙◌, arith}
 use Rattle.league_core.specs.declared.sheet.Fixture.{Fixture}
 use Rattle.league_core.specs.game.Sheets.{is_fixture}
 use Rattle.league_core.specs.game.Sums.{worth_to}
 use Rattle.league_core.specs.game.ClubSets.{clubs_in}
 use Rattle.league_core.specs.search.Options.{has_one_outcome}
 use Rattle.league_core.specs.search.PointRanges.{range_from}
-use Rattle.league_core.proofs.PlainLemmas.{list_all-at}
 use Rattle.league_core.proofs.FixtureLemmas.{fixture_of_sheet, ends_low}
 use Rattle.tie_criteria.specs.inside.Measures.{worth_of}
 use Rattle.score_box.proofs.OutcomeLemmas.{one_outcome_of}
@@ -20,6 +19,7 @@ use Rattle.tie_bound.proofs.TableLemmas.{wider}
 use Rattle.tie_bound.proofs.RowLemmas.{open_none, open_more, open_all, open_few}
 use Rattle.tie_bound.proofs.WantedLemmas.{side_wanted}
 use Rattle.tie_bound.proofs.selected.add_open_for.Goals as goal
+use Rattle.league_core.proofs.plain.Lists.{list_all-at}
 
 pub loop-i-init : goal.loop-i-init
 loop-i-init c =

@@ -3,7 +3,6 @@ use Rattle.league_core.specs.game.Sums.{worth_among}
 use Rattle.league_core.specs.game.ClubSets.{clubs_in}
 use Rattle.league_core.specs.search.Options.{has_one_outcome}
 use Rattle.league_core.specs.search.PointRanges.{range_from}
-use Rattle.league_core.proofs.PlainLemmas.{list_all-at}
 use Rattle.tie_criteria.specs.inside.Measures.{worth_of}
 use Rattle.tie_bound.specs.declared.sums.Sums.{Sums}
 use Rattle.tie_bound.specs.inside.Sums.{sums_at}
@@ -13,6 +12,7 @@ use Rattle.score_box.proofs.OutcomeLemmas.{one_outcome_of}
 use Rattle.tie_bound.proofs.TableLemmas.{wider}
 use Rattle.tie_bound.proofs.SoFarLemmas.{IsSoFar, so_far_none, so_far_more, so_far_all}
 use Rattle.tie_bound.proofs.table.add_all.Goals as goal
+use Rattle.league_core.proofs.plain.Lists.{list_all-at}
 
 pub loop-i-init : goal.loop-i-init
 loop-i-init c = λ club.

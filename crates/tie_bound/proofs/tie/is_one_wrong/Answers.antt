@@ -3,8 +3,9 @@ use Rattle.league_core.specs.game.Sums.{has_club}
 use Rattle.league_core.specs.game.ClubSets.{clubs_in}
 use Rattle.league_core.specs.search.Zones.{rivals_of, marked_after}
 use Rattle.tie_bound.specs.inside.Rivals.{is_wrong_with}
-use Rattle.tie_bound.proofs.RivalLemmas.{common-is, any-is}
+use Rattle.tie_bound.proofs.RivalLemmas.{common-is}
 use Rattle.tie_bound.proofs.tie.is_one_wrong.Goals as goal
+use Rattle.league_core.proofs.plain.Filters.{any-is}
 
 pub returns : goal.returns
 returns c =

@@ -1,5 +1,6 @@
-use Rattle.std.proofs.Common.{◌-◌, false, arith}
-use Rattle.tree_reuse.specs.declared.node.Kind.TheVariants.{Open}
+use Rattle.std.proofs.Common.{◌-◌, arith}
+use Rattle.tree_reuse.specs.inside.Arena.{number_mark}
+use Rattle.tree_reuse.proofs.ArenaLemmas.{any_node}
 use Rattle.tree_reuse.proofs.FindLemmas.{entry_within, none_left, none_from}
 use Rattle.tree_reuse.proofs.arena.find.Goals as goal
 
@@ -14,14 +15,15 @@ loop-place-preserved c =
     let within = before.within in
     record {
       within = omega arith;
-      none = none_from c.args.number c.args.nodes.now c.args.lent.now (c.loop-place.place - 1)
-          c.loop-place.place (record { kind = Open; parent = 0; yes = false }) c.requires.listed
-          (omega arith) (omega arith) c.if-is_lent_under.ensures before.none;
+      none = none_from (number_mark c.args.number) c.args.nodes.now c.args.lent.now
+          (c.loop-place.place - 1) c.loop-place.place any_node
+          (entry_within c.args.nodes.now c.args.lent.now (c.loop-place.place - 1) c.requires.listed
+          (omega arith)) (omega arith) c.if-is_lent_under.ensures before.none;
     }
 
 pub unreachable-requires : goal.unreachable-requires
 unreachable-requires c =
     none_left c.args.number c.args.nodes.now c.args.lent.now
-    (record { kind = Open; parent = 0; yes = false }) c.requires.listed c.requires.once
+    any_node c.requires.listed c.requires.once
     (λ place within. c.loop-place.invariant.none place
-    (record { kind = Open; parent = 0; yes = false }) (omega arith) within)
+    any_node (omega arith) within)

@@ -1,5 +1,5 @@
 use Rattle.std.proofs.Common.{ap, ◌∙◌, ◌++◌, ◌∷◌, []}
-use Rattle.tree_reuse.proofs.RoomLemmas.{any_node}
+use Rattle.tree_reuse.proofs.ArenaLemmas.{any_node}
 use Rattle.tree_reuse.proofs.VisitLemmas.{lists_top, lists_on, lists_less, room_for}
 use Rattle.tree_reuse.proofs.list.list_nodes.Goals as goal
 

@@ -1,8 +1,9 @@
 use Rattle.std.proofs.Common.{sym}
 use Rattle.std.proofs.lemmas.Result.{IfOk-weaker}
 use Rattle.verdict_run.proofs.PartLemmas.{done_refuted, done_spent, done_enough}
-use Rattle.verdict_run.proofs.KeptLemmas.{both_ok, won_of_seat, refuted_of_seat, spent_of_seat}
+use Rattle.verdict_run.proofs.KeptLemmas.{won_of_seat, refuted_of_seat, spent_of_seat}
 use Rattle.verdict_run.proofs.part.part_of_seat.Goals as goal
+use Rattle.league_core.proofs.plain.Options.{both_ok}
 
 pub refuted-requires : goal.refuted-requires
 refuted-requires c =

@@ -4,7 +4,7 @@ use Rattle.what_if.proofs.given.push_line.Goals as goal
 
 pub loop-club-init : goal.loop-club-init
 loop-club-init c = (
-  adds_nothing c.args.played.now.sheet c.args.played.now.season c.args.base.now c.args.line
+  adds_nothing c.args.stage.now.sheet c.args.stage.now.season c.args.base.now c.args.line
       c.args.found.now.items,
   refl,
   refl,
@@ -12,7 +12,7 @@ loop-club-init c = (
 
 pub loop-club-preserved : goal.loop-club-preserved
 loop-club-preserved c = (
-  adds_verdict c.args.played.now.sheet c.args.played.now.season c.args.base.now c.args.line
+  adds_verdict c.args.stage.now.sheet c.args.stage.now.season c.args.base.now c.args.line
       c.loop-club.club c.in_ok-verdict_given.field-0 _ _ _ c.loop-club.invariant.0
       c.in_ok-verdict_given.ensures.about c.in_ok-verdict_given.ensures.right
       c.in_ok-push.ensures.items,

@@ -4,7 +4,7 @@ use Rattle.what_if.proofs.given.verdicts_by.Goals as goal
 
 pub loop-line-preserved : goal.loop-line-preserved
 loop-line-preserved c = (
-  line_added c.args.played.now.sheet c.args.played.now.season c.args.base.now
+  line_added c.args.stage.now.sheet c.args.stage.now.season c.args.base.now
       c.as_slice-line-items.result.now c.loop-line.line-index _ c.loop-line.found.items
       c.push_line.new.found.items (omega arith) c.loop-line.invariant.0
       c.in_ok-push_line.ensures.adds,

@@ -1,6 +1,5 @@
 -- One event more was told, or the round is over.
 use Rattle.std.proofs.Common.{Ok, ap, inl, refl, ◌∙◌}
-use Rattle.league_core.proofs.PlainLemmas.{err-holds}
 use Rattle.branch_pool.specs.inside.States.{out_count}
 use Rattle.result_log.specs.declared.entry.Entry.TheVariants.{Change}
 use Rattle.result_log.proofs.LiveLemmas.{goes-further, goes-further-to, goes-nowhere, next-as}
@@ -8,6 +7,7 @@ use Rattle.result_log.proofs.LiveLemmas.{round-ends}
 use Rattle.result_log.proofs.LastReadLemmas.{entry-stops-as, round-further, round-stops}
 use Rattle.what_if.specs.inside.StepCalls.{live_step, step_close_of}
 use Rattle.what_if.proofs.round.feed_steps.Goals as goal
+use Rattle.league_core.proofs.plain.Options.{err-holds}
 
 pub steps-init : goal.steps-init
 steps-init g c = record {

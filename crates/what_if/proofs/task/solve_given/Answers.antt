@@ -19,17 +19,16 @@ returns-then-is_refuted-clause-solved c =
 pub returns-else-is_refuted-clause-solved : goal.returns-else-is_refuted-clause-solved
 returns-else-is_refuted-clause-solved c =
     task_spent c.args.solver.now.sheet c.args.solver.now.season c.args.question.now
-    c.args.base.now c.loop-task.task c.requires.league c.requires.results
+    c.args.base.now c.loop-task.task c.args.budget c.requires.league c.requires.results
     c.loop-task.invariant.0 (sym c.if-is_refuted.ensures) shut
-    (rw c.requires.budget at c.loop-task.invariant.1)
+    c.loop-task.invariant.1
   where
-    shut : c.loop-task.task.units < c.args.solver.now.sheet.budget
+    shut : c.loop-task.task.units < c.args.budget
         → has_open c.loop-task.task.tree ≡ false
     shut less =
         elim c.loop-task-test.branch [
           | then-loop-task-test+else-has_open w ↦ sym w.if-has_open.ensures
           | else-loop-task-test w ↦
               let used = w.loop-task-test.false in
-              let budget = c.requires.budget in
-              absurd (omega (arith, less, used, budget))
+              absurd (omega (arith, less, used))
         ]

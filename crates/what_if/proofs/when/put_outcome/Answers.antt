@@ -7,7 +7,7 @@ put_found-requires g c =
 
 pub returns-in-Ok-clause-text : goal.returns-in-Ok-clause-text
 returns-in-Ok-clause-text g c =
-    outcome_put c.args.played.now.sheet c.args.played.now.season c.args.about.epoch
+    outcome_put c.args.stage.now.sheet c.args.stage.now.season c.args.about.epoch
     c.args.about.fixture c.args.outcome c.in-Ok.found.items _ _ c.put_found.result
     c.in-Ok.ensures.answer
     (rw (c.sheet.ensures.sheet, c.as_slice.ensures.value) at c.put_found.ensures.text)

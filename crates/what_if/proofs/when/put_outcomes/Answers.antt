@@ -9,8 +9,8 @@ use Rattle.what_if.proofs.when.put_outcomes.Goals as goal
 
 pub returns-in-Err-clause-text : goal.returns-in-Err-clause-text
 returns-in-Err-clause-text g c =
-    let sheet = c.args.played.now.sheet in
-    let season = c.args.played.now.season in
+    let sheet = c.args.stage.now.sheet in
+    let season = c.args.stage.now.season in
     let league = played_league sheet c.sheet-sheet.result.now season c.season-season.result.now
     c.sheet-sheet.ensures.sheet c.season-season.ensures.season c.sheet-sheet.ensures.limits
     c.season-season.ensures.of_sheet in
@@ -24,8 +24,8 @@ returns-in-Err-clause-text g c =
 
 pub returns-in-Err-put_outcome-clause-text : goal.returns-in-Err-put_outcome-clause-text
 returns-in-Err-put_outcome-clause-text g c =
-    let sheet = c.args.played.now.sheet in
-    let season = c.args.played.now.season in
+    let sheet = c.args.stage.now.sheet in
+    let season = c.args.stage.now.season in
     let league = played_league sheet c.sheet-sheet.result.now season c.season-season.result.now
     c.sheet-sheet.ensures.sheet c.season-season.ensures.season c.sheet-sheet.ensures.limits
     c.season-season.ensures.of_sheet in
@@ -45,8 +45,8 @@ returns-in-Err-put_outcome-clause-text g c =
 
 pub returns-clause-text : goal.returns-clause-text
 returns-clause-text g c =
-    let sheet = c.args.played.now.sheet in
-    let season = c.args.played.now.season in
+    let sheet = c.args.stage.now.sheet in
+    let season = c.args.stage.now.season in
     let league = played_league sheet c.sheet-sheet.result.now season c.season-season.result.now
     c.sheet-sheet.ensures.sheet c.season-season.ensures.season c.sheet-sheet.ensures.limits
     c.season-season.ensures.of_sheet in

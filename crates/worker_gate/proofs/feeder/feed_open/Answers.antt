@@ -5,8 +5,8 @@ use Rattle.result_log.specs.declared.entry.Entry.TheVariants.{Ask, End}
 use Rattle.result_log.specs.inside.Rounds.{live_entry}
 use Rattle.worker_gate.specs.inside.Feeding.{HasComeOn, IsSeasonReported}
 use Rattle.worker_gate.proofs.FeedingLemmas.{come-further, come-nowhere, come-off, come-over}
-use Rattle.worker_gate.proofs.FeedingLemmas.{ok-holds}
 use Rattle.worker_gate.proofs.feeder.feed_open.Goals as goal
+use Rattle.league_core.proofs.plain.Options.{ok-holds}
 
 pub entries-init : goal.entries-init
 entries-init g c = record {

@@ -6,8 +6,9 @@ use Rattle.branch_pool.specs.inside.States.{out_count}
 use Rattle.result_log.specs.inside.Rounds.{live_entry}
 use Rattle.worker_gate.specs.inside.Feeding.{HasComeOn}
 use Rattle.worker_gate.proofs.FeedingLemmas.{come-further, come-nowhere, come-off, come-over}
-use Rattle.worker_gate.proofs.FeedingLemmas.{next-read-as, ok-holds}
+use Rattle.worker_gate.proofs.FeedingLemmas.{next-read-as}
 use Rattle.worker_gate.proofs.plain.feed_pool.Goals as goal
+use Rattle.league_core.proofs.plain.Options.{ok-holds}
 
 pub entries-init : goal.entries-init
 entries-init g c = record {

@@ -1,9 +1,9 @@
 -- If the round does not begin, nothing was passed and nothing was read.
 use Rattle.std.proofs.Common.{inl, refl}
-use Rattle.league_core.proofs.PlainLemmas.{err-holds}
 use Rattle.result_log.specs.inside.Rounds.{live_entry}
 use Rattle.result_log.proofs.LiveLemmas.{goes-nowhere}
 use Rattle.worker_gate.proofs.threads.run_round_in.Goals as goal
+use Rattle.league_core.proofs.plain.Options.{err-holds}
 
 pub returns-in_err-lock-clause-err : goal.returns-in_err-lock-clause-err
 returns-in_err-lock-clause-err g c =

@@ -2,12 +2,11 @@
 use Rattle.std.proofs.Common.{◌≡◌, List, sym, ◌∙◌, subst, arith}
 use Rattle.league_core.specs.declared.season.Event.{Event}
 use Rattle.league_core.specs.game.Seasons.{season_after}
-use Rattle.epoch_cancel.proofs.PrefixLemmas.{prefix_whole}
 use Rattle.pool_lock.specs.inside.Lends.{IsWorkAfter}
-use Rattle.pool_lock.proofs.PrefixLemmas.{prefix_onward}
 use Rattle.worker_gate.specs.declared.next.Next.{Next}
 use Rattle.worker_gate.specs.inside.Workers.{IsNextFor}
 use Rattle.worker_gate.proofs.worker.work_on.Goals as goal
+use Rattle.league_core.proofs.plain.Prefixes.{prefix_whole, prefix_onward}
 
 pub loop-preserved : goal.loop-preserved
 loop-preserved g c =

@@ -3,8 +3,9 @@ use Rattle.std.proofs.lemmas.Bool.{both_ways}
 use Rattle.branch_pool.specs.inside.States.{PoolView, loan_at, present_epoch}
 use Rattle.branch_pool.specs.inside.Steps.{IsPresent, loan_of}
 use Rattle.branch_pool.specs.inside.Views.{state_of}
-use Rattle.branch_pool.proofs.CallLemmas.{found_at, out_is_good, present_is, present_question}
+use Rattle.branch_pool.proofs.CallLemmas.{out_is_good, present_is, present_question}
 use Rattle.branch_pool.proofs.pool.Pool.is_present.Goals as goal
+use Rattle.league_core.proofs.plain.Slots.{found_at}
 
 pub returns-then-is_same_question : goal.returns-then-is_same_question
 returns-then-is_same_question c =

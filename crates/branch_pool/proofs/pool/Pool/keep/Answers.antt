@@ -8,11 +8,12 @@ use Rattle.branch_pool.specs.inside.Steps.{IsOwnTicket}
 use Rattle.branch_pool.specs.inside.Calls.{example_over}
 use Rattle.branch_pool.specs.declared.question_state.QuestionState.{QuestionState}
 use Rattle.branch_pool.specs.inside.Views.{state_of}
-use Rattle.branch_pool.proofs.CallLemmas.{found_at, found_may_be_given, kept_after}
-use Rattle.branch_pool.proofs.CallLemmas.{may_take_back, out_is_good}
+use Rattle.branch_pool.proofs.CallLemmas.{found_may_be_given, kept_after, may_take_back}
+use Rattle.branch_pool.proofs.CallLemmas.{out_is_good}
 use Rattle.branch_pool.proofs.FromLemmas.{work_from_set}
 use Rattle.branch_pool.proofs.StepLemmas.{kept_sound}
 use Rattle.branch_pool.proofs.pool.Pool.keep.Goals as goal
+use Rattle.league_core.proofs.plain.Slots.{found_at}
 
 pub settle-left-requires-clause-out : goal.settle-left-requires-clause-out
 settle-left-requires-clause-out c =

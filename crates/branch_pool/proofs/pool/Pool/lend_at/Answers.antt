@@ -6,11 +6,11 @@ use Rattle.branch_pool.specs.inside.Calls.{next_place}
 use Rattle.branch_pool.specs.inside.Views.{state_of}
 use Rattle.branch_pool.proofs.SlotLemmas.{free_number-le}
 use Rattle.branch_pool.proofs.FromLemmas.{work_from_set}
-use Rattle.branch_pool.proofs.CallLemmas.{found_at, lent_after, may_lend, next_within, same_after}
-use Rattle.branch_pool.proofs.CallLemmas.{set_again}
+use Rattle.branch_pool.proofs.CallLemmas.{lent_after, may_lend, next_within, same_after}
 use Rattle.branch_pool.proofs.GoodLemmas.{taken_is_fit}
 use Rattle.branch_pool.proofs.StepLemmas.{taken_sound}
 use Rattle.branch_pool.proofs.pool.Pool.lend_at.Goals as goal
+use Rattle.league_core.proofs.plain.Slots.{found_at, set_again}
 
 pub lend-requires-clause-open_leaf : goal.lend-requires-clause-open_leaf
 lend-requires-clause-open_leaf c =

@@ -4,11 +4,12 @@ use Rattle.branch_pool.specs.inside.QuestionStates.{MayLend, WorksSeat, with_slo
 use Rattle.branch_pool.specs.inside.Calls.{next_place}
 use Rattle.branch_pool.specs.inside.Views.{state_of}
 use Rattle.branch_pool.proofs.FromLemmas.{work_from_set}
-use Rattle.branch_pool.proofs.CallLemmas.{found_at, may_lend, next_within}
+use Rattle.branch_pool.proofs.CallLemmas.{may_lend, next_within}
 use Rattle.branch_pool.proofs.GoodLemmas.{seat_question}
 use Rattle.branch_pool.proofs.RunLemmas.{turn_sound}
 use Rattle.branch_pool.proofs.WorkLemmas.{out_count-slot, same_but_seats, worked_after}
 use Rattle.branch_pool.proofs.pool.Pool.work_at.Goals as goal
+use Rattle.league_core.proofs.plain.Slots.{found_at}
 
 pub work-requires-clause-may_lend : goal.work-requires-clause-may_lend
 work-requires-clause-may_lend g c =

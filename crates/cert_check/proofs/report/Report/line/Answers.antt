@@ -6,8 +6,9 @@ use Rattle.std.proofs.lemmas.Result.{err_from_is_err_and}
 use Rattle.cert_check.specs.ExpectedItems.{verdict_row}
 use Rattle.cert_check.specs.Machine.{rows_on_line}
 use Rattle.cert_check.specs.inside.Calls.{Reaches}
-use Rattle.cert_check.proofs.ReachLemmas.{reach_halt, reach_on, clubs_left}
+use Rattle.cert_check.proofs.ReachLemmas.{reach_halt, reach_on}
 use Rattle.cert_check.proofs.report.Report.line.Goals as goal
+use Rattle.league_core.proofs.plain.Runs.{drop-range}
 
 pub returns-in_err-item-clause-goes : goal.returns-in_err-item-clause-goes
 returns-in_err-item-clause-goes c =
@@ -24,7 +25,7 @@ returns-in_err-item-clause-goes c =
     (reach_halt judged c.args.from found.next found.unsettled wanted
     (verdict_row c.args.line c.loop-club.club ∷ [])
     (rows_on_line (drop (c.loop-club.club + 1) clubs) c.args.line) c.in_err-item.field-0.0
-    (subst R (clubs_left (length judged.basis.sheet.clubs) c.loop-club.club within)
+    (subst R (drop-range (length judged.basis.sheet.clubs) c.loop-club.club within)
     c.loop-club.invariant.2) c.in_err-item.ensures.goes)
 
 pub loop-club-preserved : goal.loop-club-preserved
@@ -41,7 +42,7 @@ loop-club-preserved c =
     (rows_on_line it c.args.line) found.unsettled in
     let on = reach_on judged c.args.from found.next found.unsettled wanted
     (verdict_row c.args.line c.loop-club.club ∷ []) later item
-    (subst R (clubs_left (length judged.basis.sheet.clubs) c.loop-club.club within)
+    (subst R (drop-range (length judged.basis.sheet.clubs) c.loop-club.club within)
     c.loop-club.invariant.2) c.in_ok-item.ensures.goes in
     let A : ℕ → Type 0 = λ it. Reaches judged c.args.from wanted it later
     (found.unsettled + item.unsettled) in

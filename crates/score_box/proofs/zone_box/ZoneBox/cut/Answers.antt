@@ -1,8 +1,7 @@
 -- The literal is of the sheet, so it is of one of the cells or marks a club; and the cells, the
 -- ends and the marks take it.
-use Rattle.std.proofs.Common.{◌≡◌, true, List, [], ◌∷◌, ◌++◌, length, get_or, drop, subst}
-use Rattle.std.proofs.Common.{refl, sym, ap}
-use Rattle.std.proofs.Common.{◌∙◌, arith}
+use Rattle.std.proofs.Common.{◌≡◌, true, List, [], ◌∷◌, ◌++◌, length, get_or, drop, subst, refl}
+use Rattle.std.proofs.Common.{sym, ap, ◌∙◌, arith}
 use Rattle.league_core.specs.declared.sheet.Fixture.{Fixture}
 use Rattle.league_core.specs.declared.zone.Literal.{Literal}
 use Rattle.league_core.specs.search.Zones.{is_test_of}
@@ -16,8 +15,9 @@ use Rattle.score_box.specs.inside.PlayedViews.{IsBoxOf, IsUndoOf, TakesOneMore}
 use Rattle.score_box.proofs.BoxLemmas.{cells_of_season, test_below}
 use Rattle.score_box.proofs.EndLemmas.{matches_of}
 use Rattle.score_box.proofs.TrailLemmas.{cell_before}
-use Rattle.score_box.proofs.PathLemmas.{box_with, written}
+use Rattle.score_box.proofs.PathLemmas.{box_with}
 use Rattle.score_box.proofs.zone_box.ZoneBox.cut.Goals as goal
+use Rattle.league_core.proofs.plain.Parts.{take-front}
 
 pub take_one-requires : goal.take_one-requires
 take_one-requires c =
@@ -89,7 +89,7 @@ invariant_of-self-2 c =
       ap length c.deref_mut.ensures.value,
       box.cells.ok.0,
     ) in
-    let all = written box.cells.len new (drop (length new) box.cells.items) many in
+    let all = take-front box.cells.len new (drop (length new) box.cells.items) many in
     let Over_fixtures : List Fixture → Type 0 = λ fs. TakesOneMore fs c.deref_mut.result.now new
     box.ends ends literal in
     let Over_cells : List Cell → Type 0 = λ cs. TakesOneMore box.sheet.now.fixtures cs new

@@ -2,8 +2,8 @@
 use Rattle.std.proofs.Common.{◌≡◌, ◌==◌, ap, ◌∙◌, subst}
 use Rattle.league_core.specs.search.Options.{options_in, has_option, has_finish}
 use Rattle.score_box.specs.inside.ZoneBoxViews.{ZoneBoxView}
-use Rattle.score_box.proofs.EndLemmas.{all_counted}
 use Rattle.score_box.proofs.zone_box.ZoneBox.has_finish.Goals as goal
+use Rattle.league_core.proofs.plain.Counts.{all_counted}
 
 pub returns : goal.returns
 unfolding has_finish

@@ -1,7 +1,6 @@
 -- What stood before the last literal stands there again.
-use Rattle.std.proofs.Common.{◌≡◌, List, [], ◌∷◌, ◌++◌, length, drop, Option, Some}
-use Rattle.std.proofs.Common.{subst, sym}
-use Rattle.std.proofs.Common.{ap, ◌∙◌, arith}
+use Rattle.std.proofs.Common.{◌≡◌, List, [], ◌∷◌, ◌++◌, length, drop, Option, Some, subst, sym, ap}
+use Rattle.std.proofs.Common.{◌∙◌, arith}
 use Rattle.std.specs.List.{All}
 use Rattle.std.specs.Prelude.{option_to_list}
 use Rattle.league_core.specs.declared.sheet.Fixture.{Fixture}
@@ -14,8 +13,9 @@ use Rattle.score_box.specs.inside.PlayedViews.{IsBoxOf, IsTrailOf, TakesOneLess}
 use Rattle.score_box.proofs.BoxLemmas.{cells_of_season, test_below}
 use Rattle.score_box.proofs.EndLemmas.{matches_of}
 use Rattle.score_box.proofs.TrailLemmas.{trail_less}
-use Rattle.score_box.proofs.PathLemmas.{box_without, zone_without, written}
+use Rattle.score_box.proofs.PathLemmas.{box_without, zone_without}
 use Rattle.score_box.proofs.zone_box.ZoneBox.uncut.Goals as goal
+use Rattle.league_core.proofs.plain.Parts.{take-front}
 
 -- an item that was popped stood at the end
 popped : {X : Type 0} (old new : List X) (taken : Option X) (item : X)
@@ -111,7 +111,7 @@ invariant_of-self c =
       ap length c.deref_mut.ensures.value,
       box.cells.ok.0,
     ) in
-    let all = written box.cells.len new (drop (length new) box.cells.items) many in
+    let all = take-front box.cells.len new (drop (length new) box.cells.items) many in
     let With_cells : List Cell → Type 0 = λ cells. IsBoxOf
     (record { sheet = sheet; season = season; zone = zone }) trail box.unplayed.items cells
     undo.marks.before undo.marks.after ends box.tables.clubs.items box.tables.pairs.items in

@@ -6,6 +6,6 @@ use Rattle.tree_reuse.proofs.tree.Tree.node_count.Goals as goal
 pub returns : goal.returns
 returns c =
     c.len.ensures
-    ∙ sym (arena-nodes c.self.inside.nodes.items c.self.inside.waiting.items
+    ∙ sym (arena-nodes c.self.inside.nodes.items c.self.invariant.roomy.opens
     c.self.inside.lent.items c.self.invariant.roomy.arena)
     ∙ ap node_count c.self.view_is

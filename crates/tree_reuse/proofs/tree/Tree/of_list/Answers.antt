@@ -3,28 +3,19 @@ use Rattle.league_core.specs.declared.zone.Literal.{Literal}
 use Rattle.league_core.specs.search.Trees.{preorder}
 use Rattle.tree_reuse.specs.inside.Arena.{tree_below}
 use Rattle.tree_reuse.specs.inside.LastPaths.{LeadsToNode}
-use Rattle.tree_reuse.proofs.BuildLemmas.{lents_few, built_roomy}
+use Rattle.tree_reuse.proofs.BuildLemmas.{built_roomy}
 use Rattle.tree_reuse.proofs.tree.Tree.of_list.Goals as goal
-
-pub overflow_mul-more : goal.overflow_mul-more
-overflow_mul-more c =
-    let built = c.in_ok-build.ensures in
-    let few = built.few in
-    let half = lents_few c.in_ok-build.build.nodes.items c.in_ok-build.build.waiting.items
-    c.in_ok-build.build.lent.items built.arena in
-    let size = c.len-more.ensures in
-    let most = c.requires.few in
-    omega arith
 
 pub invariant_of-result : goal.invariant_of-result
 invariant_of-result c =
     let built = c.in_ok-build.ensures in
     record {
       roomy = built_roomy (length c.args.list.now) c.in_ok-build.build.nodes c.reserve.new.self
-          c.in_ok-build.build.waiting c.reserve-2.new.self c.in_ok-build.build.lent built.arena
-          built.few c.requires.few c.in_ok-reserve.ensures.items c.in_ok-reserve-2.ensures.items
-          (let size = c.len-more.ensures in let ok = c.in_ok-reserve.ensures.ok in omega arith)
-          (let size = c.len-more.ensures in let ok = c.in_ok-reserve-2.ensures.ok in omega arith);
+          c.in_ok-build.build.live c.reserve-2.new.self c.in_ok-build.build.lent built.opens
+          built.arena built.in_order built.few c.requires.few c.in_ok-reserve.ensures.items
+          c.in_ok-reserve-2.ensures.items
+          (let size = c.len-many.ensures in let ok = c.in_ok-reserve.ensures.ok in omega arith)
+          (let size = c.len-many.ensures in let ok = c.in_ok-reserve-2.ensures.ok in omega arith);
       leads = subst (λ (literals : List Literal).
           LeadsToNode c.reserve.new.self.items (reverse literals) 0) (sym c.new-zone_box.ensures)
           refl;

@@ -1,5 +1,5 @@
 use Rattle.std.proofs.Common.{true}
-use Rattle.tree_reuse.proofs.RoomLemmas.{marked_once, refutes}
+use Rattle.tree_reuse.proofs.RoomLemmas.{marked_once, refutes, removed_once_lent}
 use Rattle.tree_reuse.proofs.RoomLemmas.{Returns}
 use Rattle.league_core.specs.search.Trees.{refuted_leaf}
 use Rattle.league_core.specs.inside.Lending.{put}
@@ -10,21 +10,30 @@ use Rattle.tree_reuse.proofs.tree.Tree.refute.Goals as goal
 
 pub find-place-requires-clause-once : goal.find-place-requires-clause-once
 find-place-requires-clause-once c =
-    marked_once c.args.number c.args.self.now c.self.inside.nodes c.self.inside.waiting
+    marked_once c.args.number c.args.self.now c.self.inside.nodes c.self.inside.live
     c.self.inside.lent c.as_slice.result.now c.self.invariant.roomy c.self.view_is c.requires
     c.as_slice.ensures
 
-step : (c : goal.After-write)
+pub take_leaf-requires : goal.take_leaf-requires
+take_leaf-requires c = record {
+  once = removed_once_lent c.args.number c.args.self.now c.self.inside.nodes c.self.inside.live
+      c.self.inside.lent c.remove-leaf.new.self c.as_slice.result.now c.as_slice-2.result.now
+      c.find-place.result c.remove-leaf.result c.self.invariant.roomy c.self.view_is c.requires
+      c.as_slice.ensures c.as_slice-2.ensures c.find-place.ensures c.remove-leaf.ensures.item
+      c.remove-leaf.ensures.items;
+}
+
+step : (c : goal.After-take_leaf)
     → Returns (put c.args.number (refuted_leaf c.args.reason true) c.args.self.now)
-    c.write.new.nodes c.self.inside.waiting c.remove-leaf.new.self
+    c.write.new.nodes c.take_leaf.new.list c.remove-leaf.new.self
 step c =
     refutes c.args.number c.args.self.now c.self.inside.nodes c.write.new.nodes
-    c.self.inside.waiting c.self.inside.lent c.remove-leaf.new.self
+    c.self.inside.live c.self.inside.lent c.remove-leaf.new.self c.take_leaf.new.list
     c.as_slice.result.now c.as_slice-2.result.now c.find-place.result c.remove-leaf.result
     c.args.reason true
     c.self.invariant.roomy c.self.view_is c.requires c.as_slice.ensures c.as_slice-2.ensures
     c.find-place.ensures c.remove-leaf.ensures.item c.remove-leaf.ensures.items
-    c.write.ensures.room c.write.ensures.items
+    c.write.ensures.room c.write.ensures.items c.take_leaf.ensures.items c.take_leaf.ensures.room
 
 pub invariant_of-self : goal.invariant_of-self
 invariant_of-self c = record {

@@ -9,19 +9,19 @@ use Rattle.tree_reuse.proofs.tree.Tree.reopen.Goals as goal
 
 pub find-place-requires-clause-once : goal.find-place-requires-clause-once
 find-place-requires-clause-once c =
-    marked_once c.args.number c.args.self.now c.self.inside.nodes c.self.inside.waiting
+    marked_once c.args.number c.args.self.now c.self.inside.nodes c.self.inside.live
     c.self.inside.lent c.as_slice.result.now c.self.invariant.roomy c.self.view_is c.requires
     c.as_slice.ensures
 
-step : (c : goal.After-push) → Returns (put c.args.number open_leaf c.args.self.now)
-    c.write.new.nodes c.push.new.self c.remove-leaf.new.self
+step : (c : goal.After-write) → Returns (put c.args.number open_leaf c.args.self.now)
+    c.write.new.nodes c.self.inside.live c.remove-leaf.new.self
 step c =
     reopens c.args.number c.args.self.now c.self.inside.nodes c.write.new.nodes
-    c.self.inside.waiting c.self.inside.lent c.remove-leaf.new.self c.push.new.self
+    c.self.inside.live c.self.inside.lent c.remove-leaf.new.self
     c.as_slice.result.now c.as_slice-2.result.now c.find-place.result c.remove-leaf.result
     c.self.invariant.roomy c.self.view_is c.requires c.as_slice.ensures c.as_slice-2.ensures
     c.find-place.ensures c.remove-leaf.ensures.item c.remove-leaf.ensures.items
-    c.write.ensures.room c.write.ensures.items c.push.ensures.items c.push.ensures.room
+    c.write.ensures.room c.write.ensures.items
 
 pub invariant_of-self : goal.invariant_of-self
 invariant_of-self c = record {

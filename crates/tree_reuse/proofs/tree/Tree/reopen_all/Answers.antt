@@ -6,7 +6,7 @@ use Rattle.tree_reuse.proofs.tree.Tree.reopen_all.Goals as goal
 
 pub write-requires : goal.write-requires
 write-requires c =
-    let last = last_lent c.loop-self.self-inside.nodes c.loop-self.self-inside.waiting
+    let last = last_lent c.loop-self.self-inside.nodes c.loop-self.self-inside.live
     c.loop-self.self-inside.lent c.pop-leaf.new.self c.pop-leaf.result
     c.loop-self.invariant.opens.roomy c.pop-leaf.ensures.items in
     last.0
@@ -14,12 +14,12 @@ write-requires c =
 pub loop-self-preserved : goal.loop-self-preserved
 loop-self-preserved c = record {
   opens = opens_last (all_opened c.args.self.now) c.loop-self.self-inside.nodes c.write.new.nodes
-      c.loop-self.self-inside.waiting c.loop-self.self-inside.lent c.pop-leaf.new.self
-      c.push.new.self c.pop-leaf.result c.loop-self.invariant.opens.roomy
+      c.loop-self.self-inside.live c.loop-self.self-inside.lent c.pop-leaf.new.self
+      c.pop-leaf.result c.loop-self.invariant.opens.roomy
       c.loop-self.invariant.opens.same c.pop-leaf.ensures.items c.write.ensures.room
-      c.write.ensures.items c.push.ensures.items c.push.ensures.room;
+      c.write.ensures.items;
   leads = leads_opened c.loop-self.self-inside.nodes c.write.new.nodes
-      c.loop-self.self-inside.waiting c.loop-self.self-inside.lent c.pop-leaf.new.self
+      c.loop-self.self-inside.live c.loop-self.self-inside.lent c.pop-leaf.new.self
       c.pop-leaf.result (reverse c.loop-self.self-inside.zone_box) c.loop-self.self-inside.last
       c.loop-self.invariant.opens.roomy c.pop-leaf.ensures.items c.write.ensures.items
       c.loop-self.invariant.leads;
@@ -28,5 +28,5 @@ loop-self-preserved c = record {
 pub returns : goal.returns
 returns c =
     opens_all (all_opened c.args.self.now) c.loop-self.self-inside.nodes
-    c.loop-self.self-inside.waiting c.loop-self.self-inside.lent c.loop-self.invariant.opens
+    c.loop-self.self-inside.live c.loop-self.self-inside.lent c.loop-self.invariant.opens
     (let size = c.len.ensures in omega arith)

@@ -6,7 +6,7 @@ use Rattle.tree_reuse.proofs.tree.Tree.reopen_all.Given as goal
 
 abbrev pub invariant-loop-self : goal.invariant-loop-self
 invariant-loop-self l = record {
-  opens : OpensLast (all_opened l.fn.self) l.self-inside.nodes l.self-inside.waiting
+  opens : OpensLast (all_opened l.fn.self) l.self-inside.nodes l.self-inside.live
       l.self-inside.lent;
   leads : LeadsToNode l.self-inside.nodes.items (reverse l.self-inside.zone_box) l.self-inside.last;
 }

@@ -1,5 +1,5 @@
 use Rattle.std.proofs.Common.{true}
-use Rattle.tree_reuse.proofs.RoomLemmas.{marked_once, splits_pushed, Returns}
+use Rattle.tree_reuse.proofs.RoomLemmas.{marked_once, splits_pushed, removed_once_lent, Returns}
 use Rattle.league_core.specs.search.Trees.{open_leaf, branch}
 use Rattle.league_core.specs.inside.Lending.{put}
 use Rattle.std.proofs.Common.{◌-◌, reverse, false}
@@ -9,23 +9,31 @@ use Rattle.tree_reuse.proofs.tree.Tree.split.Goals as goal
 
 pub find-place-requires-clause-once : goal.find-place-requires-clause-once
 find-place-requires-clause-once c =
-    marked_once c.args.number c.args.self.now c.self.inside.nodes c.self.inside.waiting
+    marked_once c.args.number c.args.self.now c.self.inside.nodes c.self.inside.live
     c.self.inside.lent c.as_slice.result.now c.self.invariant.roomy c.self.view_is c.requires
     c.as_slice.ensures
 
-step : (c : goal.After-push-4)
+pub split_leaf-requires-clause-once : goal.split_leaf-requires-clause-once
+split_leaf-requires-clause-once c =
+    removed_once_lent c.args.number c.args.self.now c.self.inside.nodes c.self.inside.live
+    c.self.inside.lent c.remove-leaf.new.self c.as_slice.result.now c.as_slice-2.result.now
+    c.find-place.result c.remove-leaf.result c.self.invariant.roomy c.self.view_is c.requires
+    c.as_slice.ensures c.as_slice-2.ensures c.find-place.ensures c.remove-leaf.ensures.item
+    c.remove-leaf.ensures.items
+
+step : (c : goal.After-split_leaf)
     → Returns (put c.args.number (branch c.args.test true open_leaf open_leaf) c.args.self.now)
-    c.push-2.new.self c.push-4.new.self c.remove-leaf.new.self
+    c.push-2.new.self c.split_leaf.new.list c.remove-leaf.new.self
 step c =
     splits_pushed c.args.number c.args.self.now c.self.inside.nodes c.write.new.nodes
-    c.push.new.self c.push-2.new.self c.self.inside.waiting c.self.inside.lent
-    c.remove-leaf.new.self c.push-3.new.self c.push-4.new.self c.as_slice.result.now
+    c.push.new.self c.push-2.new.self c.self.inside.live c.self.inside.lent
+    c.remove-leaf.new.self c.split_leaf.new.list c.as_slice.result.now
     c.as_slice-2.result.now c.find-place.result c.remove-leaf.result c.len-size.result c.args.test
     c.self.invariant.roomy c.self.view_is c.requires c.as_slice.ensures c.as_slice-2.ensures
     c.find-place.ensures c.remove-leaf.ensures.item c.remove-leaf.ensures.items
     c.len-size.ensures c.write.ensures.room c.write.ensures.items c.push.ensures.items
-    c.push.ensures.room c.push-2.ensures.items c.push-2.ensures.room c.push-3.ensures.items
-    c.push-3.ensures.room c.push-4.ensures.items c.push-4.ensures.room
+    c.push.ensures.room c.push-2.ensures.items c.push-2.ensures.room
+    c.split_leaf.ensures.items c.split_leaf.ensures.room
 
 pub invariant_of-self : goal.invariant_of-self
 invariant_of-self c = record {

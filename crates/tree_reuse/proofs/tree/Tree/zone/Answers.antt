@@ -11,7 +11,7 @@ use Rattle.tree_reuse.proofs.tree.Tree.zone.Goals as goal
 
 pub find-place-requires-clause-once : goal.find-place-requires-clause-once
 find-place-requires-clause-once c =
-    marked_once c.args.number c.args.self.now c.self.inside.nodes c.self.inside.waiting
+    marked_once c.args.number c.args.self.now c.self.inside.nodes c.self.inside.live
     c.self.inside.lent c.as_slice.result.now c.self.invariant.roomy c.self.view_is c.requires
     c.as_slice.ensures
 

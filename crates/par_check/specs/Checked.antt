@@ -1,0 +1,55 @@
+-- What checking a whole report comes to: ask after ask, and by its first stop.
+use Rattle.std.specs.Prelude.{◌≡◌, ◌<◌, ◌≤◌, ℕ, ◌*◌, length, List, Result, Ok, Err}
+use Rattle.league_core.specs.declared.sheet.Sheet.{Sheet}
+use Rattle.cert_check.specs.declared.stop.Accepted.{Accepted}
+use Rattle.cert_check.specs.declared.stop.CheckStop.{CheckStop}
+use Rattle.cert_check.specs.declared.stop.CheckStop.TheVariants as stop
+use Rattle.cert_check.specs.declared.stop.CheckStopAt.{CheckStopAt}
+use Rattle.cert_check.specs.declared.stop.CheckStopAt.TheVariants as halt
+use Rattle.cert_check.specs.LineLists.{NumberedLine, tokens_of, line_number_at}
+use Rattle.cert_check.specs.Machine.{Ending, whole_at, bad_line, no_proof, short, rows_of}
+use Rattle.par_check.specs.declared.asks.Asks.{Asks}
+use Rattle.par_check.specs.FirstStops.{ending_of_asks, first_stop_of}
+use Rattle.par_check.specs.Cuts.{bases_in, grammar_cut}
+
+-- what the answers come to, read one after another
+abbrev pub ending_in : Sheet → Asks → List NumberedLine → Ending
+ending_in sheet asks lines = ending_of_asks (tokens_of lines) (bases_in sheet asks) 0 0
+
+-- the first stop among the items, each judged for itself, and the grammar's
+abbrev pub first_stop_in : Sheet → Asks → List NumberedLine → Ending
+first_stop_in sheet asks lines =
+    first_stop_of (tokens_of lines) (grammar_cut sheet asks lines)
+
+-- how many rows the answers have
+abbrev pub rows_in : Sheet → Asks → ℕ
+rows_in sheet asks = length asks.epochs.items * length (rows_of sheet)
+
+-- a call that checks lines which come to this: they are accepted, with so many rows; or the stop
+-- is told, by the number of its line; or memory runs out
+abbrev pub AnswersSo : List NumberedLine → ℕ → Ending → Result Accepted CheckStop → Type 0
+AnswersSo lines rows ending (Ok accepted) =
+    (ending ≡ whole_at accepted.next accepted.unsettled) × (accepted.next ≤ length lines)
+    × (accepted.rows ≡ rows)
+AnswersSo lines rows ending (Err (stop.BadLine number)) =
+    (at : ℕ) × (at < length lines) × (ending ≡ bad_line at)
+    × (number ≡ line_number_at lines at)
+AnswersSo lines rows ending (Err (stop.NoProof number)) =
+    (at : ℕ) × (at < length lines) × (ending ≡ no_proof at)
+    × (number ≡ line_number_at lines at)
+AnswersSo lines rows ending (Err stop.Short) = ending ≡ short
+AnswersSo lines rows ending (Err stop.OutOfMemory) = Unit {0}
+
+-- lines come to this stop
+abbrev pub StopsSo : ℕ → Ending → CheckStopAt → Type 0
+StopsSo lines ending (halt.BadLine at) = (at < lines) × (ending ≡ bad_line at)
+StopsSo lines ending (halt.NoProof at) = (at < lines) × (ending ≡ no_proof at)
+StopsSo lines ending halt.Short = ending ≡ short
+StopsSo lines ending halt.OutOfMemory = Unit {0}
+
+-- a stop names a line within these
+abbrev pub StopsWithin : ℕ → CheckStopAt → Type 0
+StopsWithin lines (halt.BadLine at) = at < lines
+StopsWithin lines (halt.NoProof at) = at < lines
+StopsWithin lines halt.Short = Unit {0}
+StopsWithin lines halt.OutOfMemory = Unit {0}
