@@ -13,7 +13,7 @@ from .objects import to_come
 from .texts import Season, Sheet
 from .wording import WIDTH, counted, listed, paragraph, rules_phrase, shown
 
-HEADS = ["place", "club", "played", "points", "to come", "difference"]
+HEADS = ["place", "club", "played", "points", "to win", "difference"]
 MOST_LISTED = 6
 Marks = Dict[int, Dict[str, str]]
 
@@ -30,7 +30,7 @@ def limit_text(sheet: Sheet, season: Season) -> str:
     """What the words in, out and open rest on."""
     if not season.open_fixtures(sheet):
         return "In and out are certain however lots are drawn; no match is open."
-    return paragraph("In and out are certain however the open matches end (with at most "
+    return paragraph("In and out are certain however the unplayed matches end (with at most "
                      f"{counted(sheet.goal_limit, 'goal')} a side) and however lots are drawn; "
                      "open can still go either way.")
 
@@ -75,7 +75,7 @@ def _group_texts(groups: dict[str, list[str]], below: str) -> list[str]:
 
 def table_text(sheet: Sheet, season: Season, table: list[Place], marks: Marks,
                names: LineNames | None = None) -> list[str]:
-    """The table with the points to come, and a word a line and club.
+    """The table with the points to win, and a word a line and club.
 
     Lines stand by their names where a row has room for them, and else by their numbers.
     """
