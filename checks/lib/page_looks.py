@@ -152,8 +152,8 @@ def stands_on(named, name, below):
 
 
 def pages_agree(root, named):
-    """crates.txt, docs/promises.md and ARCHITECTURE have the crates in one order, and what the
-    latter's table names as the tests of a crate are crates that stand on it, or checks."""
+    """crates.txt and ARCHITECTURE have the crates in one order, and what the latter's table names as
+    the tests of a crate are crates that stand on it, or checks."""
     found = []
     rows = table_of(f"{root}/docs/ARCHITECTURE.md", "## Crates")
     if [it[0] for it in rows] != list(named):
@@ -162,10 +162,6 @@ def pages_agree(root, named):
         found += [f"ARCHITECTURE has {name} tested by {it}, which does not stand on it"
                   for it in re.findall(r"\w+", re.sub(r"checks/\w+", "", tests))
                   if it in named and not stands_on(named, it, name)]
-    rows = table_of(f"{root}/docs/promises.md", "## Crate by crate")
-    order = list(dict.fromkeys(it[0] for it in rows))
-    if not order or order != [it for it in named if it in order]:
-        found.append("docs/promises.md has no table of crates, or in another order than crates.txt")
     return found
 
 

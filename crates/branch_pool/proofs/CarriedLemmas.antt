@@ -1,6 +1,6 @@
--- What is kept of a question over a change: the tree is good for the new season, and an example
--- stays exactly where it is one.
-use Rattle.std.proofs.Common.{◌≡◌, true, [], Option}
+-- What is kept of a question over a change, or if a tree is handed in: the tree is good for the
+-- season, and an example stays exactly where it is one.
+use Rattle.std.proofs.Common.{◌≡◌, ℕ, true, [], Option}
 use Rattle.std.proofs.Common.{Some, None, refl, sym, ◌∙◌, inl, inr, arith}
 use Rattle.std.specs.Prelude.{IfSome}
 use Rattle.std.proofs.lemmas.Bool.{false≢true, and_parts, and_from, cases_Bool}
@@ -9,11 +9,13 @@ use Rattle.league_core.specs.declared.sheet.Sheet.{Sheet}
 use Rattle.league_core.specs.declared.question.Question.{Question}
 use Rattle.league_core.specs.game.Results.{Results}
 use Rattle.league_core.specs.game.Finishes.{IsFinishOf}
+use Rattle.league_core.specs.search.Trees.{Tree}
 use Rattle.league_core.specs.search.Splits.{IsProperNode}
 use Rattle.league_core.proofs.TreeLemmas.{NodesMeet-weaker}
 use Rattle.tree_reuse.specs.inside.RetargetLaws.{IsKeptNode}
+use Rattle.tree_reuse.specs.inside.Asked.{IsAskedTree}
 use Rattle.tree_reuse.specs.inside.Retargets.{retargeted}
-use Rattle.tree_reuse.proofs.RetargetLemmas.{kept_good, lent_count-retargeted}
+use Rattle.tree_reuse.proofs.RetargetLemmas.{asked_good, proper_asked, lent_count-retargeted}
 use Rattle.tree_reuse.proofs.RetargetLemmas.{new_count-retargeted, node_count-retargeted}
 use Rattle.branch_pool.specs.declared.question_state.Example.{Example}
 use Rattle.branch_pool.specs.declared.question_state.QuestionState.{QuestionState}
@@ -58,6 +60,33 @@ pub example_stays : (sheet : Sheet) (season : Results) (question : Question) (ex
 example_stays sheet season question example is =
     rw (test_by_ends sheet season example.finish is.is_finish) refl
 
+-- a question with what a season leaves of a tree whose tests may be asked, with nothing lent
+pub retargeted_good : (sheet : Sheet) (season : Results) (tree : Tree) (seat : QuestionState)
+    (lent : ℕ) (example : Option Example) → IsAskedTree sheet seat.question tree → lent ≡ 0
+    → IfSome example (IsExampleOf sheet season seat.question)
+    → IsGoodSeat sheet season (record seat {
+      tree = retargeted sheet season seat.question tree;
+      units = 0;
+      lent = lent;
+      example = example;
+    })
+retargeted_good sheet season tree seat lent example asked none is = record {
+  nodes = NodesMeet-weaker (IsKeptNode sheet season seat.question)
+      (IsGoodNode sheet season seat.question)
+      (λ zone node fact. record {
+        proper = fact.proper;
+        refuted = fact.reason;
+        unit = λ new. absurd (false≢true (sym fact.not_new ∙ new));
+      })
+      (retargeted sheet season seat.question tree) []
+      (asked_good sheet season seat.question tree asked);
+  units = sym (new_count-retargeted sheet season seat.question tree);
+  lent = none ∙ sym (lent_count-retargeted sheet season seat.question tree);
+  within = omega (arith, none);
+  few = (node_count-retargeted sheet season seat.question tree).1;
+  example = is;
+}
+
 -- a question in a new season
 pub seat_changed_good : (sheet : Sheet) (before season : Results) (seat : QuestionState)
     → IsGoodSeat sheet before seat → IsGoodSeat sheet season (seat_changed sheet season seat)
@@ -65,19 +94,6 @@ seat_changed_good sheet before season seat good =
     let proper = NodesMeet-weaker (IsGoodNode sheet before seat.question)
     (IsProperNode sheet before seat.question) (λ zone node fact. fact.proper) seat.tree []
     good.nodes in
-    let kept = kept_good sheet before season seat.question seat.tree proper in
-    record {
-      nodes = NodesMeet-weaker (IsKeptNode sheet season seat.question)
-          (IsGoodNode sheet season seat.question)
-          (λ zone node fact. record {
-            proper = fact.proper;
-            refuted = fact.reason;
-            unit = λ new. absurd (false≢true (sym fact.not_new ∙ new));
-          })
-          (retargeted sheet season seat.question seat.tree) [] kept;
-      units = sym (new_count-retargeted sheet season seat.question seat.tree);
-      lent = sym (lent_count-retargeted sheet season seat.question seat.tree);
-      within = omega arith;
-      few = (node_count-retargeted sheet season seat.question seat.tree).1;
-      example = example_kept_good sheet before season seat.question seat.example good.example;
-    }
+    retargeted_good sheet season seat.tree seat 0 (example_kept sheet season seat.example)
+    (proper_asked sheet before seat.question [] seat.tree proper) refl
+    (example_kept_good sheet before season seat.question seat.example good.example)

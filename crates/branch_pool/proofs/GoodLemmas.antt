@@ -14,9 +14,10 @@ use Rattle.league_core.specs.game.Questions.{IsQuestionOf}
 use Rattle.league_core.specs.search.Zones.{IsZoneFor}
 use Rattle.league_core.specs.search.Options.{has_finish}
 use Rattle.league_core.specs.search.Trees.{Tree, open_leaf, NodesMeet}
-use Rattle.league_core.specs.inside.Lending.{lent_zones, put}
+use Rattle.league_core.specs.inside.Lending.{lent_count, lent_zones, put}
 use Rattle.league_core.specs.search.Splits.{IsProperNode, IsReasonTrue, IsUnitIfNew}
 use Rattle.league_core.proofs.HalfLemmas.{root_has_finish, nodes_have_finish}
+use Rattle.league_core.proofs.LendingLemmas.{length-lent_zones, lent_count-none}
 use Rattle.league_core.proofs.LogLemmas.{season_after_of, log_has_codes}
 use Rattle.league_core.proofs.NodeFactLemmas.{NodesMeet-lend, NodesMeet-lent}
 use Rattle.league_core.proofs.TreeLemmas.{NodesMeet-weaker}
@@ -25,12 +26,14 @@ use Rattle.reason_laws.proofs.SplitLemmas.{leaves_cover}
 use Rattle.tree_reuse.proofs.RetargetLemmas.{proper_tests}
 use Rattle.branch_pool.specs.declared.question_state.QuestionState.{QuestionState}
 use Rattle.branch_pool.specs.declared.ticket.Ticket.{Ticket}
-use Rattle.branch_pool.specs.inside.States.{PoolView}
+use Rattle.branch_pool.specs.inside.States.{PoolView, present_epoch, out_count}
 use Rattle.branch_pool.specs.inside.Steps.{TakesLeaf, pool_lent}
 use Rattle.branch_pool.specs.inside.Goodness.{IsGoodNode, IsGoodSeat, IsSoundPool, IsCovered}
+use Rattle.branch_pool.specs.inside.Goodness.{zones_due}
 use Rattle.branch_pool.specs.inside.Goodness.{AreLeavesRefuted, IsExampleTrue, AreUnitsTrue, IsGood}
 use Rattle.branch_pool.specs.inside.QuestionStates.{MayBeCarried}
 use Rattle.branch_pool.specs.inside.Calls.{IsFit}
+use Rattle.branch_pool.proofs.SlotLemmas.{nothing_out}
 use Rattle.league_core.proofs.plain.Slots.{All-at}
 
 -- the splits of a good question are proper
@@ -182,3 +185,13 @@ seats_ready pool sound k d within = record {
       (get_or pool.seats k d).tree
       (seat_proper pool.sheet pool.season (get_or pool.seats k d) (sound.seats k d within));
 }
+
+-- if nothing is out, no leaf is lent
+pub none_lent_at : (pool : PoolView) (place : ℕ) (seat : QuestionState) → IsSoundPool pool
+    → out_count pool.loans ≡ 0 → slice_get pool.seats place ≡ Some seat
+    → lent_count seat.tree ≡ 0
+none_lent_at pool place seat sound home found =
+    lent_count-none seat.tree (λ number.
+    sym (length-lent_zones number seat.tree [])
+    ∙ ap length (sound.due number place seat found
+    ∙ ap (zones_due (present_epoch pool) place) (nothing_out pool.loans number home)))

@@ -5,6 +5,7 @@ pub mod UncutLemmas
 pub mod CarriedLemmas
 pub mod StepLemmas
 pub mod GoodLemmas
+pub mod AdoptLemmas
 pub mod CallLemmas
 pub mod NextLemmas
 pub mod FromLemmas

@@ -1,42 +1,42 @@
 -- Lists of steps keep a pool sound; a turn of work leaves less to do; and where nothing is left,
 -- each question is answered.
-use Rattle.std.proofs.Common.{◌≡◌, ◌≢◌, ℕ, zero, suc, ◌+◌, ◌-◌, ◌<◌, ◌≤◌, ◌==◌, Bool, true, false}
-use Rattle.std.proofs.Common.{nat_lt, cond, List, [], ◌∷◌, length, Option, Some, None, refl, sym}
-use Rattle.std.proofs.Common.{ap, ◌∙◌, set, subst, inl, inr, arith, zero-add}
-use Rattle.std.specs.Prelude.{sum_by, is_some, is_none}
+use Rattle.std.proofs.Common.{◌≡◌, ◌≢◌, ℕ, suc, ◌+◌, ◌-◌, ◌<◌, ◌≤◌, ◌==◌, Bool, true, false}
+use Rattle.std.proofs.Common.{nat_lt, List, [], ◌∷◌, length, Option, Some, None, refl, sym}
+use Rattle.std.proofs.Common.{ap, ◌∙◌, set, subst, inl, inr, arith}
+use Rattle.std.specs.Prelude.{sum_by, is_none}
 use Rattle.std.specs.List.{slice_get, All}
 use Rattle.std.specs.Option.{option_map}
 use Rattle.std.proofs.lemmas.Bool.{false≢true, both_ways, cases_Bool, and_from, lt-ltb, and_parts}
 use Rattle.std.proofs.lemmas.Bool.{eqb-false}
 use Rattle.std.proofs.lemmas.Option.{same_Some, none-some, get_or_from_slice_get, slice_get_within}
-use Rattle.std.proofs.lemmas.List.Sums.{sum_by-cons, sum_by-set}
+use Rattle.std.proofs.lemmas.List.Sums.{sum_by-set}
 use Rattle.league_core.specs.declared.sheet.Sheet.{Sheet}
 use Rattle.league_core.specs.declared.question.Question.{Question}
 use Rattle.league_core.specs.game.Sheets.{IsWithinLimits}
 use Rattle.league_core.specs.game.Questions.{IsQuestionOf}
 use Rattle.league_core.specs.search.Trees.{Tree, has_open, is_refuted}
-use Rattle.league_core.specs.inside.Lending.{lent_count}
-use Rattle.league_core.proofs.LendingLemmas.{length-lent_zones, lent_count-none, settled_is_refuted}
+use Rattle.league_core.proofs.LendingLemmas.{settled_is_refuted}
 use Rattle.reason_core.specs.declared.done.Done.{Done}
 use Rattle.reason_core.specs.declared.done.Done.TheVariants.{Refuted, Split, Won, Undone}
 use Rattle.reason_core.specs.inside.Dones.{finding_of}
 use Rattle.branch_pool.specs.declared.question_state.Example.{Example}
 use Rattle.branch_pool.specs.declared.question_state.QuestionState.{QuestionState}
-use Rattle.branch_pool.specs.declared.question_state.Loan.{Loan}
 use Rattle.branch_pool.specs.declared.ticket.Answer.TheVariants as answer
 use Rattle.branch_pool.specs.declared.ticket.Ticket.{Ticket}
 use Rattle.branch_pool.specs.inside.States.{PoolView, pool_begun, has_work, out_count, is_workable}
-use Rattle.branch_pool.specs.inside.States.{most_questions, loan_at, present_epoch}
+use Rattle.branch_pool.specs.inside.States.{most_questions}
 use Rattle.branch_pool.specs.inside.Steps.{TakesLeaf, Keeps, seat_lent, seat_after}
-use Rattle.branch_pool.specs.inside.Goodness.{IsSoundPool, IsGood, IsGoodSeat, zones_due}
+use Rattle.branch_pool.specs.inside.Goodness.{IsSoundPool, IsGood, IsGoodSeat}
 use Rattle.branch_pool.specs.inside.Calls.{pool_answer, answer_of}
 use Rattle.branch_pool.specs.inside.Runs.{Step, take_step, give_step, change_step, start_step}
-use Rattle.branch_pool.specs.inside.Runs.{shut_step, recall_step, MakesStep, Move, AreSteps}
-use Rattle.branch_pool.specs.inside.Runs.{pool_after, IsWorked, WorksNext, seat_left, work_left}
+use Rattle.branch_pool.specs.inside.Runs.{shut_step, recall_step, adopt_step, MakesStep, Move}
+use Rattle.branch_pool.specs.inside.Runs.{AreSteps, pool_after, IsWorked, WorksNext, seat_left}
+use Rattle.branch_pool.specs.inside.Runs.{work_left}
 use Rattle.branch_pool.proofs.QuestionStateLemmas.{workable_within}
-use Rattle.branch_pool.proofs.GoodLemmas.{sound_is_good}
+use Rattle.branch_pool.proofs.GoodLemmas.{sound_is_good, none_lent_at}
 use Rattle.branch_pool.proofs.StepLemmas.{begun_sound, taken_sound, given_sound, kept_sound}
 use Rattle.branch_pool.proofs.StepLemmas.{changed_sound, opened_sound, shut_sound, recalled_sound}
+use Rattle.branch_pool.proofs.AdoptLemmas.{adopted_sound}
 use Rattle.league_core.proofs.plain.Slots.{All-at, set_twice, slice_get-set_same, none_at}
 
 -- ---- steps
@@ -53,6 +53,8 @@ step_sound old start_step new sound leads = subst IsSoundPool (sym leads) (opene
 step_sound old shut_step new sound leads = subst IsSoundPool (sym leads) (shut_sound old sound)
 step_sound old recall_step new sound leads = subst IsSoundPool (sym leads) (recalled_sound old
     sound)
+step_sound old (adopt_step place tree) new sound leads = adopted_sound old place tree new sound
+    leads
 
 -- and so do all of a list
 pub steps_sound : (pool : PoolView) (moves : List Move) → IsSoundPool pool → AreSteps pool moves
@@ -162,32 +164,12 @@ turns_leave_less old new sound works = rw (same_sheet, seats_are)
 
 -- ---- nothing left
 
--- where no number is out nothing is out under any
-pub nothing_out : (loans : List (Option Loan)) (number : ℕ) → out_count loans ≡ 0
-    → loan_at loans number ≡ None
-nothing_out [] number none = refl
-nothing_out (None ∷ loans) zero none = refl
-nothing_out (None ∷ loans) (suc number) none =
-    nothing_out loans number (sym (sum_by-cons (λ (out : Option Loan). cond (is_some out) 1 0) None
-    loans ∙ zero-add _) ∙ none)
-nothing_out (Some loan ∷ loans) number none =
-    let some = sum_by-cons (λ (out : Option Loan). cond (is_some out) 1 0) (Some loan) loans in
-    absurd (omega (arith, some, none))
-
 -- where nothing is out and there is no work, no question is not answered yet
 pub no_work_answers : (pool : PoolView) (place : ℕ) → IsSoundPool pool → out_count pool.loans ≡ 0
     → has_work pool ≡ false → pool_answer pool place ≢ Some answer.NotYet
 no_work_answers pool place sound none idle not_yet =
     by_seat (slice_get pool.seats place) refl not_yet
   where
-    lends_nothing : (seat : QuestionState) → slice_get pool.seats place ≡ Some seat
-        → lent_count seat.tree ≡ 0
-    lends_nothing seat found = lent_count-none seat.tree (λ number.
-        sym (length-lent_zones number seat.tree [])
-        ∙ ap length (sound.due number place seat found)
-        ∙ ap (λ out. length (zones_due (present_epoch pool) place out))
-        (nothing_out pool.loans number none))
-
     settled : (seat : QuestionState) → slice_get pool.seats place ≡ Some seat
         → (kept : Option Example)
         → seat.example ≡ kept → (refuted : Bool) → is_refuted seat.tree ≡ refuted → (spent : Bool)
@@ -202,7 +184,7 @@ no_work_answers pool place sound none idle not_yet =
     settled seat found None kept false tree false units is =
         let good = All-at (IsGoodSeat pool.sheet pool.season) pool.seats place seat sound.seats
         found in
-        let nothing = lends_nothing seat found in
+        let nothing = none_lent_at pool place seat sound none found in
         let fewer : seat.units + seat.lent < pool.sheet.budget =
         (let differ = eqb-false seat.units pool.sheet.budget units in
         omega (arith, good.within, good.lent, nothing, differ)) in

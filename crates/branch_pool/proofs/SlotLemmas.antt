@@ -1,13 +1,14 @@
--- Numbers that are out and places of questions: what stands under one after another was written.
+-- Numbers that are out: what stands under one after another was written.
 use Rattle.std.proofs.Common.{◌≡◌, ◌≢◌, ℕ, zero, suc, ◌+◌, ◌++◌, cond, ◌<◌, ◌≤◌, List, [], ◌∷◌}
-use Rattle.std.proofs.Common.{length, Option, Some, None, refl, ap, set, arith}
-use Rattle.std.specs.Prelude.{IfSome, is_none}
+use Rattle.std.proofs.Common.{length, Option, Some, None, refl, sym, ap, ◌∙◌, set, arith, zero-add}
+use Rattle.std.specs.Prelude.{IfSome, is_none, is_some}
 use Rattle.std.specs.List.{All, position_or_len}
 use Rattle.std.proofs.lemmas.List.Recursion.{is_position_or_len}
 use Rattle.std.proofs.lemmas.Option.{none-some}
+use Rattle.std.proofs.lemmas.List.Sums.{sum_by-cons}
 use Rattle.std.proofs.lemmas.List.Elements.{All-nil, All-cons, All-head, All-tail}
 use Rattle.branch_pool.specs.declared.question_state.Loan.{Loan}
-use Rattle.branch_pool.specs.inside.States.{loan_at, free_number, with_loan}
+use Rattle.branch_pool.specs.inside.States.{loan_at, free_number, with_loan, out_count}
 
 -- ---- numbers
 
@@ -51,6 +52,18 @@ pub loan_at-home_same : (loans : List (Option Loan)) (number : ℕ)
 loan_at-home_same [] number = refl
 loan_at-home_same (first ∷ loans) zero = refl
 loan_at-home_same (first ∷ loans) (suc number) = loan_at-home_same loans number
+
+-- where no number is out nothing is out under any
+pub nothing_out : (loans : List (Option Loan)) (number : ℕ) → out_count loans ≡ 0
+    → loan_at loans number ≡ None
+nothing_out [] number none = refl
+nothing_out (None ∷ loans) zero none = refl
+nothing_out (None ∷ loans) (suc number) none =
+    nothing_out loans number (sym (sum_by-cons (λ (out : Option Loan). cond (is_some out) 1 0) None
+    loans ∙ zero-add _) ∙ none)
+nothing_out (Some loan ∷ loans) number none =
+    let some = sum_by-cons (λ (out : Option Loan). cond (is_some out) 1 0) (Some loan) loans in
+    absurd (omega (arith, some, none))
 
 -- what is true of all that is out is true of one more that is
 pub All-with_loan : (P : Option Loan → Type 0) (loans : List (Option Loan)) (number : ℕ)
@@ -100,5 +113,3 @@ with_loan_push [] (suc number) loan next = absurd (omega arith)
 with_loan_push (first ∷ loans) zero loan next = absurd (omega arith)
 with_loan_push (first ∷ loans) (suc number) loan next =
     ap (λ rest. first ∷ rest) (with_loan_push loans number loan (omega arith))
-
--- ---- places

@@ -48,7 +48,7 @@ use Rattle.league_core.proofs.plain.Slots.{All-at}
 -- ---- lists of seats
 
 -- questions stay where a seat is written that has its question
-asked-set : (seats : List QuestionState) (place : ℕ) (seat new : QuestionState)
+pub asked-set : (seats : List QuestionState) (place : ℕ) (seat new : QuestionState)
     → slice_get seats place ≡ Some seat
     → new.question ≡ seat.question
     → map (λ (s : QuestionState). s.question) (set seats place new) ≡ map

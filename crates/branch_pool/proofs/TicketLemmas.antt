@@ -19,7 +19,7 @@ use Rattle.branch_pool.specs.inside.Steps.{TakesLeaf, loan_of, seat_lent, IsPres
 use Rattle.branch_pool.specs.inside.Steps.{MayBeGiven, Gives}
 use Rattle.branch_pool.specs.inside.Goodness.{IsSoundPool}
 use Rattle.branch_pool.specs.inside.Runs.{Step, take_step, give_step, change_step, start_step}
-use Rattle.branch_pool.specs.inside.Runs.{shut_step, recall_step, MakesStep, LeavesOut}
+use Rattle.branch_pool.specs.inside.Runs.{shut_step, recall_step, adopt_step, MakesStep, LeavesOut}
 use Rattle.branch_pool.proofs.SlotLemmas.{loan_at-free, free_number-le, loan_at-with_same}
 use Rattle.branch_pool.proofs.SlotLemmas.{loan_at-with_other}
 use Rattle.branch_pool.proofs.GoodLemmas.{asked_there}
@@ -170,3 +170,9 @@ stays_over_step old new shut_step ticket sound leads left own =
     (ap (λ (pool : PoolView). pool.questions) leads)
     (ap (λ (pool : PoolView). loan_at pool.loans ticket.number) leads) own
 stays_over_step old new recall_step ticket sound leads left own = absurd left
+stays_over_step old new (adopt_step place tree) ticket sound leads left own =
+    stays_own old new ticket sound (step_sound old (adopt_step place tree) new sound leads)
+    (ap (λ (pool : PoolView). pool.log) leads.after)
+    (ap (λ (pool : PoolView). pool.season) leads.after)
+    (ap (λ (pool : PoolView). pool.questions) leads.after)
+    (ap (λ (pool : PoolView). loan_at pool.loans ticket.number) leads.after) own

@@ -5,6 +5,7 @@
 //! call does to it, `specs/inside/Goodness.antt` what all of them keep.
 #![tactic(auto)]
 
+mod adopt;
 mod change;
 mod discarded;
 mod give;

@@ -20,7 +20,7 @@ two_fields (first ∷ second ∷ []) two = refl
 two_fields (first ∷ second ∷ third ∷ fields) two = absurd (omega arith)
 
 -- four fields
-four_fields : (fields : List (List ℕ)) → length fields ≡ 4
+pub four_fields : (fields : List (List ℕ)) → length fields ≡ 4
     → fields ≡ field 0 fields ∷ field 1 fields ∷ field 2 fields ∷ field 3 fields ∷ []
 four_fields [] four = absurd (omega arith)
 four_fields (first ∷ []) four = absurd (omega arith)

@@ -45,5 +45,5 @@ pub use outcome::{CheckFailure, CheckOutcome, ReportFault};
 pub use ranges::{is_reason_for, is_test_for};
 pub use report::Report;
 pub use stop::{Accepted, CheckStop, CheckStopAt};
-pub use token::Token;
+pub use token::{Token, read_token};
 pub use tree::node_of;

@@ -5,7 +5,8 @@ ghost use Rattle.std.specs.Prelude.{◌≡◌, [], ◌∷◌, Bool, true, IsTrue
 ghost use Rattle.std.specs.List.{list_all};
 ghost use Rattle.league_core.specs.declared.zone.Test.{Test};
 ghost use Rattle.league_core.specs.search.Zones.{is_zone_of};
-ghost use Rattle.cert_check.specs.inside.Calls.{IsInSeasonOf, pending_of};
+ghost use Rattle.league_core.specs.inside.Pending.{pending_of};
+ghost use Rattle.cert_check.specs.inside.Calls.{IsInSeasonOf};
 
 use check_bounds::Trail;
 use league_core::{Literal, OutOfMemory};

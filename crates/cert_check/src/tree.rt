@@ -7,7 +7,8 @@ ghost use Rattle.cert_check.specs.Tokens.{counts};
 ghost use Rattle.cert_check.specs.ExpectedItems.{whole_tree, after};
 ghost use Rattle.cert_check.specs.ExpectedItems as dues;
 ghost use Rattle.cert_check.specs.inside.Calls.{Goes, NodeSays, nodes_due, node_of_token};
-ghost use Rattle.cert_check.specs.inside.Calls.{pending_of, IsPathFor, after_walked};
+ghost use Rattle.league_core.specs.inside.Pending.{pending_of};
+ghost use Rattle.cert_check.specs.inside.Calls.{IsPathFor, after_walked};
 
 use crate::expected::{Tally, TreeKind};
 use crate::path::next_half;

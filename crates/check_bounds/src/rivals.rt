@@ -90,22 +90,14 @@ fn those_above(sure: &[Sure; 32]) -> ClubSet
     ensures { (club : ℕ) → has_club (clubs_in result) club
         ≡ (nat_lt club 32 && order.is_above (sure_at sure.now club)) }
 {
-    let mut found = ClubSet::empty();
-    for club in 0..32u8 {
-        found = found.with_if(is_above(sure[club as usize]), club);
-    }
-    found
+    ClubSet::first(32).keep(|club| is_above(sure[club as usize]))
 }
 
 fn those_below(sure: &[Sure; 32]) -> ClubSet
     ensures { (club : ℕ) → has_club (clubs_in result) club
         ≡ (nat_lt club 32 && order.is_below (sure_at sure.now club)) }
 {
-    let mut found = ClubSet::empty();
-    for club in 0..32u8 {
-        found = found.with_if(is_below(sure[club as usize]), club);
-    }
-    found
+    ClubSet::first(32).keep(|club| is_below(sure[club as usize]))
 }
 
 fn is_above(sure: Sure) -> bool

@@ -68,22 +68,14 @@ fn leave_unknown(answers: &mut [Sure; 32])
 fn level_in(group: ClubSet, tables: &[[IntRange; 32]], club: u8) -> ClubSet
     ensures { clubs_in result ≡ filter (is_level_by_tables tables.now club) (clubs_in group) }
 {
-    let mut found = ClubSet::empty();
-    for other in 0..32 {
-        found = found.with_if(group.has(other) && is_level(tables, club, other), other);
-    }
-    found
+    group.keep(|other| is_level(tables, club, other))
 }
 
 // Of each club of the group it is sure whether it is.
 fn are_all_sure(group: ClubSet, tables: &[[IntRange; 32]], club: u8) -> bool
     ensures { result ≡ list_all (is_sure_by_tables tables.now club) (clubs_in group) }
 {
-    let mut unsure = ClubSet::empty();
-    for other in 0..32 {
-        unsure = unsure.with_if(group.has(other) && !is_sure(tables, club, other), other);
-    }
-    unsure.is_empty()
+    group.keep(|other| !is_sure(tables, club, other)).is_empty()
 }
 
 // The group has no other club.

@@ -1,13 +1,13 @@
 -- Sets and tests of clubs: clubs are below 32, and a set of one club is its list.
-use Rattle.std.proofs.Common.{◌≡◌, ◌⊎◌, ℕ, ◌<◌, ◌≤◌, Bool, true, false, ◌&&◌}
+use Rattle.std.proofs.Common.{◌≡◌, ℕ, ◌<◌, ◌≤◌, Bool, true, false, ◌&&◌}
 use Rattle.std.proofs.Common.{◌||◌, not, eqb, ltb, List, [], ◌∷◌, filter, length, refl, sym, ap}
 use Rattle.std.proofs.Common.{◌∙◌, inl}
 use Rattle.std.proofs.Common.{inr, arith}
 use Rattle.std.specs.List.{list_all}
 use Rattle.std.specs.Int.{bit_at}
 use Rattle.std.proofs.lemmas.List.Filters.{length-filter_both}
-use Rattle.std.proofs.lemmas.Bool.{false≢true, and_parts, and_from, cases_lt, eq-eqb}
-use Rattle.std.proofs.lemmas.Bool.{eqb-true, lt-ltb, le-ltb, ltb-true, or_cases}
+use Rattle.std.proofs.lemmas.Bool.{false≢true, and_parts, and_from, eq-eqb}
+use Rattle.std.proofs.lemmas.Bool.{eqb-true, ltb-true, or_cases}
 use Rattle.league_core.specs.declared.club_set.ClubSet.{ClubSet}
 use Rattle.league_core.specs.game.Sums.{has_club}
 use Rattle.league_core.specs.game.ClubSets.{clubs_in}
@@ -21,25 +21,6 @@ side_of-lt set club has =
     ltb-true club 32
     (and_parts (ltb club 32) (eqb (bit_at set.bits club) 1)
     (sym (has_club-clubs_below 32 set.bits club) ∙ has)).0
-
--- a number from 32 on is no club of a set
-pub side_of-past : (set : ClubSet) (club : ℕ) → 32 ≤ club → side_of set club ≡ false
-side_of-past set club past =
-    has_club-clubs_below 32 set.bits club
-    ∙ ap (λ b. b && eqb (bit_at set.bits club) 1) (le-ltb club 32 past)
-
--- once all numbers below 32 were looked at, all clubs of a set that pass are found
-pub found_all : (found set : ClubSet) (test : ℕ → Bool) (at : ℕ) → 32 ≤ at
-    → ((club : ℕ) → side_of found club ≡ (ltb club at && (side_of set club && test club)))
-    → (club : ℕ) → side_of found club ≡ (side_of set club && test club)
-found_all found set test at past is club = is club ∙ by_place (cases_lt club at)
-  where
-    by_place : (club < at) ⊎ (at ≤ club)
-        → (ltb club at && (side_of set club && test club)) ≡ (side_of set club && test club)
-    by_place (inl below) = ap (λ b. b && (side_of set club && test club)) (lt-ltb club at below)
-    by_place (inr above) =
-        ap (λ b. b && (side_of set club && test club)) (le-ltb club at above)
-        ∙ ap (λ b. b && test club) (sym (side_of-past set club (omega arith)))
 
 -- a set without a club has none
 pub no_club_left : (set : ClubSet) → clubs_in set ≡ [] → (club : ℕ) → side_of set club ≡ false

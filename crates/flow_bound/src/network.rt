@@ -194,10 +194,5 @@ fn clubs_of(marks: &[bool], set: ClubSet, places: &Places) -> ClubSet
     ensures { (club : ℕ) → side_of result club
         ≡ in_both (side_of set) (through places.now (marked marks.now)) club }
 {
-    let mut found = ClubSet::empty();
-    for club in 0..SET_WIDTH {
-        let keep = set.has(club) && marks[places[club as usize] as usize];
-        found = found.with_if(keep, club);
-    }
-    found
+    set.keep(|club| marks[places[club as usize] as usize])
 }

@@ -110,9 +110,5 @@ fn positive(table: &Table, set: ClubSet) -> ClubSet
     ensures { (club : ℕ) → side_of result club
         ≡ (side_of set club && int_lt (pos 0) (entry table.now club)) }
 {
-    let mut found = ClubSet::empty();
-    for club in set.clubs() {
-        found = found.with_if(is_over(table, club), club);
-    }
-    found
+    set.keep(|club| is_over(table, club))
 }

@@ -38,11 +38,7 @@ fn may_add_among(zone_box: &ZoneBox, alone: &Table, set: ClubSet) -> ClubSet
     ensures { (club : ℕ) → side_of result club
         ≡ (side_of set club && may_add zone_box.now alone.now club) }
 {
-    let mut found = ClubSet::empty();
-    for club in set.clubs() {
-        found = found.with_if(may_add(zone_box, alone, club), club);
-    }
-    found
+    set.keep(|club| may_add(zone_box, alone, club))
 }
 
 // What a club adds alone is above 0, together with all that its matches leave open.

@@ -1,5 +1,6 @@
 -- Checks of an input: what was written, from what the input comes to.
 use Rattle.std.proofs.Common.{◌≡◌, ℕ, List, [], Option, Some, None, Ok, refl, ◌∙◌}
+use Rattle.std.proofs.Common.{subst, sym}
 use Rattle.std.specs.Io.KnownBytes.{IsAtEnd}
 use Rattle.port_core.specs.Contents.{start, contents_of}
 use Rattle.port_core.specs.Readers.{LineReaderView, contents_to_come, TakesInput}
@@ -24,23 +25,32 @@ not_a_fault (outcome.BadFeed number fault) is = cc
 not_a_fault (outcome.LineTooLong number) is = cc
 not_a_fault (outcome.InputTooLong number) is = cc
 
--- where a report is accepted, nothing is left
-accepted-end : (outcome : CheckOutcome) (new : LineReaderView) (left : Option (List ℕ))
-    → status_of_check outcome ≡ Done → LeavesCheck new left (Ok outcome) → IsAtEnd left
-accepted-end (outcome.Accepted rows unsettled) new left is leaves = leaves.2
-accepted-end (outcome.Refused number fault) new left is leaves = cc
-accepted-end (outcome.BadSheet number fault) new left is leaves = cc
-accepted-end (outcome.BadFeed number fault) new left is leaves = cc
-accepted-end (outcome.LineTooLong number) new left is leaves = cc
-accepted-end (outcome.InputTooLong number) new left is leaves = cc
+-- the status of a report that was judged
+abbrev IsJudged : Status → Type 0
+IsJudged Done = Unit {0}
+IsJudged NotProved = Unit {0}
+IsJudged status = ⊥
+
+-- where a report was judged, nothing is left
+judged-end : (outcome : CheckOutcome) (new : LineReaderView) (left : Option (List ℕ))
+    → IsJudged (status_of_check outcome) → LeavesCheck new left (Ok outcome) → IsAtEnd left
+judged-end (outcome.Accepted rows unsettled) new left is leaves = leaves.2
+judged-end (outcome.Refused number fault) new left is leaves = leaves.2
+judged-end (outcome.BadSheet number fault) new left is leaves = absurd is
+judged-end (outcome.BadFeed number fault) new left is leaves = absurd is
+judged-end (outcome.LineTooLong number) new left is leaves = absurd is
+judged-end (outcome.InputTooLong number) new left is leaves = absurd is
 
 -- what an input comes to is written
 check-ends : (input : List ℕ) (left : Option (List ℕ)) (outcome : CheckOutcome)
     (old now : Option (List ℕ)) (status : Status) → ComesTo input outcome
-    → (status_of_check outcome ≡ Done → left ≡ Some []) → OutcomeEnds outcome old now status
+    → (IsJudged (status_of_check outcome) → left ≡ Some []) → OutcomeEnds outcome old now status
     → ServesCheck (Some input) left old now status
-check-ends input left outcome old now Done comes at_end ends =
-    (check_row outcome, ends.1, ((outcome, comes, ends.0, refl), at_end ends.0))
+check-ends input left outcome old now Done comes at_end ends = (
+  check_row outcome,
+  ends.1,
+  ((outcome, comes, ends.0, refl), at_end (subst IsJudged (sym ends.0) tt)),
+)
 check-ends input left outcome old now BadWords comes at_end ends =
     (check_row outcome, ends.1, (outcome, comes, ends.0, refl))
 check-ends input left outcome old now BadSheet comes at_end ends =
@@ -53,8 +63,11 @@ check-ends input left outcome old now WriteFault comes at_end ends =
     (ends.0, ends.2, (outcome, comes, ends.1))
 check-ends input left outcome old now OutOfMemory comes at_end ends =
     ([], ends ∙ append_known-nothing old, refl)
-check-ends input left outcome old now NotProved comes at_end ends =
-    (check_row outcome, ends.1, (outcome, comes, ends.0, refl))
+check-ends input left outcome old now NotProved comes at_end ends = (
+  check_row outcome,
+  ends.1,
+  ((outcome, comes, ends.0, refl), at_end (subst IsJudged (sym ends.0) tt)),
+)
 check-ends input left outcome old now TooLong comes at_end ends =
     (check_row outcome, ends.1, (outcome, comes, ends.0, refl))
 
@@ -70,7 +83,7 @@ check-serves reader new None left outcome old now status fresh checks leaves tak
 check-serves reader new (Some input) left outcome old now status fresh checks leaves takes ends =
     check-ends input left outcome old now status
     (checks (contents_of input) (fresh-contents reader (Some input) fresh))
-    (λ is. nothing_left input takes.0 left takes.1 (accepted-end outcome new left is leaves)) ends
+    (λ is. nothing_left input takes.0 left takes.1 (judged-end outcome new left is leaves)) ends
 
 -- a fault of the source, which leaves no text
 pub check-fails : (input left old : Option (List ℕ))

@@ -51,7 +51,7 @@ check-settled (Some input) left old now ReadFault serves words read write = absu
 check-settled (Some input) left old now WriteFault serves words read write = absurd (write refl)
 check-settled (Some input) left old now OutOfMemory serves words read write = inr refl
 check-settled (Some input) left old now NotProved serves words read write =
-    let text = serves.2 in inl (text.0, text.1, text.2)
+    let text = serves.2.0 in inl (text.0, text.1, text.2)
 check-settled (Some input) left old now TooLong serves words read write =
     let text = serves.2 in inl (text.0, text.1, text.2)
 

@@ -60,13 +60,15 @@ IsCheckText input status text =
     × (text ≡ check_row outcome)
 
 -- what was written if a check of this input ends with this status, by what the source has left:
--- nothing if the source failed, or memory ran out
+-- nothing if the source failed, or memory ran out; nothing is left where a report was judged
 abbrev pub CheckEnds : List ℕ → Option (List ℕ) → Status → List ℕ → Type 0
 CheckEnds input left status.Done text = IsCheckText input status.Done text × (left ≡ Some [])
 CheckEnds input left status.ReadFault text = text ≡ []
 CheckEnds input left status.WriteFault text =
     (outcome : CheckOutcome) × ComesTo input outcome × IsBytePrefix text (check_row outcome)
 CheckEnds input left status.OutOfMemory text = text ≡ []
+CheckEnds input left status.NotProved text =
+    IsCheckText input status.NotProved text × (left ≡ Some [])
 CheckEnds input left status text = IsCheckText input status text
 
 -- the sink's bytes before and after a check, by what the source had left and has left; nothing is

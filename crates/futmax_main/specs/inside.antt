@@ -7,4 +7,5 @@ pub mod Halts
 pub mod Stops
 pub mod Turns
 pub mod TurnReads
+pub mod RoundHalts
 pub mod Judging

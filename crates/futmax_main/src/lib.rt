@@ -9,6 +9,7 @@
 mod answer;
 mod check;
 mod command;
+mod halting;
 mod laws;
 mod refuse;
 mod rows;

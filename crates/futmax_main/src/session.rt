@@ -19,6 +19,7 @@ ghost use Rattle.futmax_main.specs.inside.Turns.{TurnCounts, TurnGives};
 ghost use Rattle.futmax_main.specs.inside.Turns.{TurnBegins, TurnGoesOn, TurnIsLive};
 
 use crate::answer::{begin_pool, put_answer};
+use crate::halting::{Halt, next_round};
 use crate::refuse::{end_at_stop, stop_of_feed, stop_of_sheet};
 use crate::setup::Setup;
 use crate::status::Status;
@@ -31,16 +32,7 @@ use port_core::{LineReader, Sink, Source};
 use std::alloc::Global;
 use std::sync::Wait;
 use std::thread::Threads;
-use what_if::{StepEnd, StepRound, read_steps};
-use worker_gate::{Gate, Round, RoundEnd, read_round, run_round};
-
-/// Where a round of the feed halted, and the fixture that it halted at an ask about, if it did.
-#[derive(Drop)]
-struct Halt {
-    pool: Pool,
-    end: RoundEnd,
-    about: Option<u16>,
-}
+use worker_gate::{Gate, RoundEnd};
 
 /// What came of a turn.
 #[derive(Drop)]
@@ -166,93 +158,6 @@ fn take_round<R: Threads + Wait + Sync, S: Source + Send, K: Sink, G: Gate + Syn
             close_round(setup.alloc, setup.mode, pool, end, about, sink)
         }
         Err(_) => Step::Ends(Status::OutOfMemory),
-    }
-}
-
-// Reads the feed on to the next ask, its end or a stop. In the mode `verdicts` workers work on the
-// pool meanwhile; in the mode `whatif` an ask may be about a match.
-fn next_round<R: Threads + Wait + Sync, S: Source + Send, G: Gate + Sync>(
-    setup: &Setup<'_, R, G>,
-    sheet: &Sheet,
-    pool: Pool,
-    reader: &mut LineReader,
-    source: &mut S,
-) -> Result<Halt, OutOfMemory>
-    requires live { IsLive setup.now.mode pool }
-    requires of_pool { sheet.now ≡ pool.sheet }
-    ensures live { IfOk result (λ halt. IsLive setup.now.mode halt.pool) }
-    ensures sheet { IfOk result (λ halt. halt.pool.sheet ≡ pool.sheet) }
-    ensures about { IfOk result (λ halt.
-        IsAboutAt setup.now.mode halt.end reader.new.text halt.about) }
-    ensures askable { IfOk result (λ halt. IsAskable halt.pool halt.about) }
-    ensures ends { IfOk result (λ halt. EndsRound (line_after setup.now.mode pool.sheet)
-        pool.log halt.pool.log
-        (spot_of reader.old (S.left source.old) (S.ended source.old) (S.faults source.old))
-        (spot_of reader.new (S.left source.new) (S.ended source.new) (S.faults source.new))
-        (close_of halt.end)) }
-    ensures last { IfOk result (λ halt. StopsAtClose S.left S.reads
-        (line_after setup.now.mode pool.sheet) pool.log reader.old reader.new source.old
-        source.new (close_of halt.end)) }
-    ensures err { OnErr result ((S.faults source.new ≡ S.faults source.old)
-        × ReadsOnWay S.left S.reads
-        (GivesEvents (line_after setup.now.mode pool.sheet) pool.log) reader.old reader.new
-        source.old source.new) }
-{
-    match setup.mode {
-        Mode::Verdicts { .. } => {
-            let Round { pool, end } = run_round(
-                setup.rt,
-                setup.alloc,
-                sheet,
-                pool,
-                reader,
-                source,
-                setup.workers,
-                setup.gate,
-            )?;
-            Ok(Halt {
-                pool,
-                end,
-                about: None,
-            })
-        }
-        Mode::WhatIf => {
-            let StepRound { pool, end } = read_steps(setup.alloc, pool, reader, source)?;
-            Ok(Halt {
-                pool,
-                end: round_end_of(end),
-                about: about_at(end),
-            })
-        }
-        Mode::Table | Mode::Scores | Mode::Check | Mode::Sample { .. } => {
-            let Round { pool, end } = read_round(setup.alloc, pool, reader, source)?;
-            Ok(Halt {
-                pool,
-                end,
-                about: None,
-            })
-        }
-    }
-}
-
-// A round that ended on a `when` ended on an ask.
-fn round_end_of(end: StepEnd) -> RoundEnd
-    ensures { result ≡ round_end_of end }
-{
-    match end {
-        StepEnd::Ask | StepEnd::When(_) => RoundEnd::Ask,
-        StepEnd::End => RoundEnd::End,
-        StepEnd::Stop(stop) => RoundEnd::Stop(stop),
-    }
-}
-
-// The fixture of that `when`.
-fn about_at(end: StepEnd) -> Option<u16>
-    ensures { result ≡ about_at end }
-{
-    match end {
-        StepEnd::When(fixture) => Some(fixture),
-        StepEnd::Ask | StepEnd::End | StepEnd::Stop(_) => None,
     }
 }
 

@@ -83,24 +83,42 @@ fn asked<R: Threads + Wait + Sync>(
     }
 }
 
-// How many of the 32 questions have this answer.
-fn count_of(pool: &Pool, answer: Answer) -> u16 {
+// What a question comes to, the one about being inside before the one about being outside of each
+// club: K01 is the first in every finish, and no other club is.
+fn known_of(place: u16) -> Answer {
+    let is_first = place < 2;
+    let is_inside = place % 2 == 0;
+    if is_first == is_inside {
+        Answer::Won
+    } else {
+        Answer::Refuted
+    }
+}
+
+// How many of the 32 questions are not yet answered.
+fn count_open(pool: &Pool) -> u16 {
     let mut count = 0u16;
     if pool.questions().len() != 32 {
         return count;
     }
     for place in 0..32u16 {
-        if pool.answer(place) == answer {
+        if pool.answer(place) == Answer::NotYet {
             count = count.saturating_add(1);
         }
     }
     count
 }
 
-// K01 is the first in every finish, so of the two questions of each club one has an example and the
-// other none.
+// Whether each question has the answer that it comes to.
 fn is_settled(pool: &Pool) -> bool {
-    count_of(pool, Answer::Won) == 16 && count_of(pool, Answer::Refuted) == 16
+    if pool.questions().len() != 32 {
+        return false;
+    }
+    let mut settled = true;
+    for place in 0..32u16 {
+        settled = settled && pool.answer(place) == known_of(place);
+    }
+    settled
 }
 
 // Whether the pool is settled after a round.
@@ -150,7 +168,7 @@ fn two_rounds<R: Threads + Wait + Sync>(
     requires limits { IsWithinLimits sheet.now }
 {
     let pool = begun(alloc, sheet)?;
-    let open = count_of(&pool, Answer::NotYet);
+    let open = count_open(&pool);
     let is_settled = is_settled_twice(rt, alloc, sheet, pool, first, second)?;
     Ok((open, is_settled))
 }

@@ -6,6 +6,7 @@ use fixture_sheet::{
     Draft, Fields, FieldsStop, Progress, RecordStop, SheetFault, fields_of, name_of, number_within,
     number_written, take_content,
 };
+use result_log::FeedFault;
 use std::alloc::Global;
 use std::process::Abort;
 use std::test::Fail;
@@ -118,6 +119,29 @@ fn refusals_print_as_their_codes(rt: HostRuntime) -> Result<(), Fail> {
         SheetFault::NoSeason,
     ] {
         assert!(rt; prints_its_code(rt.alloc(), fault)?, "{fault}");
+    }
+    Ok(())
+}
+
+fn prints_its_feed_code(alloc: Global, fault: FeedFault) -> Result<bool, Fail> {
+    let printed = format!(in alloc; "{fault}")?;
+    Ok(printed.as_str() == fault.code())
+}
+
+#[test]
+fn refusals_of_a_feed_print_as_their_codes(rt: HostRuntime) -> Result<(), Fail> {
+    for fault in [
+        FeedFault::UnknownRecord,
+        FeedFault::WrongWidth,
+        FeedFault::UnknownFixture,
+        FeedFault::BadGoals,
+        FeedFault::AlreadyPlayed,
+        FeedFault::NotPlayed,
+        FeedFault::LogFull,
+        FeedFault::UnknownClub,
+        FeedFault::BadPoints,
+    ] {
+        assert!(rt; prints_its_feed_code(rt.alloc(), fault)?, "{fault}");
     }
     Ok(())
 }

@@ -21,7 +21,7 @@ use Rattle.league_core.specs.game.Sums.{has_club}
 use Rattle.league_core.specs.game.ClubSets.{clubs_below, clubs_in}
 use Rattle.std.proofs.Math.Bool.{and-true, or-false}
 use Rattle.league_core.proofs.ClubLemmas.{has_club-some}
-use Rattle.league_core.proofs.plain.TruthValues.{and_comm, and_absorbs}
+use Rattle.league_core.proofs.plain.TruthValues.{and_comm}
 use Rattle.league_core.proofs.plain.Filters.{filter-filter}
 use Rattle.league_core.proofs.plain.Runs.{filter-range_below}
 
@@ -261,21 +261,6 @@ length-clubs_below-suc count bits within =
     length-cond : (b : Bool) (x : ℕ) → length (cond b (x ∷ []) []) ≡ cond b 1 0
     length-cond true x = refl
     length-cond false x = refl
-
--- the clubs of a group that pass a test, found by looking at every number that a set can have
-pub clubs_below-filter_all : (bits group : ℕ) (p : ℕ → Bool)
-    → ((x : ℕ) → has_club (clubs_below 32 bits) x ≡
-    (ltb x 32 && (has_club (clubs_below 32 group) x && p x)))
-    → clubs_below 32 bits ≡ filter p (clubs_below 32 group)
-clubs_below-filter_all bits group p found =
-    clubs_below-filter 32 bits group p
-    (λ x.
-    let bit = eqb (bit_at group x) 1 in
-    let group_is = has_club-clubs_below 32 group x in
-    found x
-    ∙ ap (λ b. ltb x 32 && (b && p x)) group_is
-    ∙ and_absorbs (ltb x 32) bit (p x)
-    ∙ ap (λ b. b && p x) (sym group_is))
 
 -- a set within another that misses a club of it has fewer clubs
 pub length-fewer : (set whole : ClubSet) (missed : ℕ)

@@ -41,6 +41,7 @@ pub mod WorthLemmas
 pub mod ExtentLemmas
 pub mod SureLemmas
 pub mod TreeLemmas
+pub mod KeptClubLemmas
 pub mod LendingLemmas
 pub mod PutLemmas
 pub mod NodeFactLemmas

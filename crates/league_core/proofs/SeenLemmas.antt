@@ -1,9 +1,9 @@
 -- What holds of the clubs that a walk has seen, and of the next one.
 use Rattle.std.proofs.Common.{◌≡◌, ◌≢◌, inl, inr, ℕ, ◌<◌, Bool, true, false, ◌&&◌, ◌||◌, ◌==◌, List}
 use Rattle.std.proofs.Common.{[], ◌∷◌, ◌++◌, length, get_or, set, refl, sym, ap, ◌∙◌, subst, arith}
-use Rattle.std.proofs.lemmas.Bool.{false≢true, cases_eq, ne_eqb, eqb-true}
+use Rattle.std.proofs.lemmas.Bool.{false≢true, cases_eq, ne_eqb}
 use Rattle.std.proofs.lemmas.List.{get_or-set_other, get_or-set_same, length-set}
-use Rattle.std.proofs.Math.Bool.{and-true, and-false, or-false}
+use Rattle.std.proofs.Math.Bool.{and-false, or-false}
 use Rattle.league_core.specs.game.Sums.{has_club}
 use Rattle.league_core.proofs.ClubLemmas.{has_club-append}
 use Rattle.league_core.proofs.WalkLemmas.{stands_after}
@@ -52,22 +52,6 @@ passed_next passes seen found more at grows so_far club =
     either true false here = and-false here
     either false passes true = refl
     either false passes false = refl
-
--- the same, if the next club was looked at by itself
-pub kept_next : (passes : ℕ → Bool) (seen found more : List ℕ) (at : ℕ) (test : Bool)
-    → test ≡ passes at
-    → ((club : ℕ) → has_club more club ≡ (has_club found club || (test && (at == club))))
-    → ((club : ℕ) → has_club found club ≡ (has_club seen club && passes club))
-    → (club : ℕ) → has_club more club ≡ (has_club (seen ++ at ∷ []) club && passes club)
-kept_next passes seen found more at test is grows so_far club =
-    passed_next passes seen found more at
-    (λ club. grows club ∙ ap (λ b. has_club found club || b) (here (at == club) (passes club)
-    (λ same. is ∙ ap passes (eqb-true at club same)))) so_far club
-  where
-    here : (same passes : Bool) → (same ≡ true → test ≡ passes)
-        → (test && same) ≡ (same && passes)
-    here true passes is = and-true test ∙ is refl
-    here false passes is = and-false test
 
 -- a table with a row for each club that a walk has seen, and none for the others
 pub record IsFilled {A : Type 0} (none : A) (Is : ℕ → A → Type 0) (count : ℕ) (seen : List ℕ)

@@ -9,4 +9,6 @@ pub mod Extents
 pub mod PairSums
 pub mod Leaves
 pub mod Lending
+pub mod Pending
 pub mod TreeLists
+pub mod KeptClubs

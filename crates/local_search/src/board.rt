@@ -1,5 +1,6 @@
 //! A finish as it is walked over: the scores of the open matches, and what all matches add up to.
 
+use crate::lead::Record;
 use crate::row::{away_change, away_row, home_change, home_row, joined};
 use league_core::{Event, Fixture, OutOfMemory, Score, Season, Sheet};
 use score_box::Totals;
@@ -39,12 +40,13 @@ impl OpenMatch {
 }
 
 /// A finish, by its open matches, and sums of all matches: of each club, less the points taken off
-/// it, and of each club against each other. What is not there has no sums, and takes no score.
+/// it, and of each club against each other what counts among a group. What is not there has no
+/// sums, and takes no score.
 #[derive(Drop)]
 pub struct Board {
     open: Vec<OpenMatch>,
     rows: Vec<Totals>,
-    pairs: Vec<Totals>,
+    pairs: Vec<Record>,
 }
 
 impl Board {
@@ -53,11 +55,19 @@ impl Board {
         let mut board = Board {
             open: Vec::new(alloc),
             rows: vec![in alloc; Totals::NONE; 24]?,
-            pairs: vec![in alloc; Totals::NONE; 576]?,
+            pairs: vec![in alloc; Record::NONE; 576]?,
         };
         board.take_deductions(season.deductions());
         board.take_matches(sheet.fixtures.as_slice(), season.scores())?;
         Ok(board)
+    }
+
+    /// The same finish, to be changed by itself.
+    pub fn copy(&self, alloc: Global) -> Result<Board, OutOfMemory> {
+        let open = Vec::from_slice(alloc, self.open.as_slice())?;
+        let rows = Vec::from_slice(alloc, self.rows.as_slice())?;
+        let pairs = Vec::from_slice(alloc, self.pairs.as_slice())?;
+        Ok(Board { open, rows, pairs })
     }
 
     fn take_deductions(&mut self, deductions: &[u8]) {
@@ -102,8 +112,8 @@ impl Board {
     fn add(&mut self, sides: Fixture, home: &Totals, away: &Totals) {
         add_at(&mut self.rows, usize::from(sides.home), home);
         add_at(&mut self.rows, usize::from(sides.away), away);
-        add_at(&mut self.pairs, pair_at(sides.home, sides.away), home);
-        add_at(&mut self.pairs, pair_at(sides.away, sides.home), away);
+        add_record(&mut self.pairs, pair_at(sides.home, sides.away), home);
+        add_record(&mut self.pairs, pair_at(sides.away, sides.home), away);
     }
 
     /// How many matches are open.
@@ -131,9 +141,10 @@ impl Board {
         row_at(&self.rows, usize::from(club))
     }
 
-    /// What the matches of a club against another add up to.
-    pub fn pair(&self, club: u8, other: u8) -> Totals {
-        row_at(&self.pairs, pair_at(club, other))
+    /// What counts of the matches of a club against another.
+    pub fn pair(&self, club: u8, other: u8) -> Record {
+        let at = pair_at(club, other);
+        self.pairs.get(at).copied().unwrap_or(Record::NONE)
     }
 
     /// Gives an open match, by its place among them, a score.
@@ -216,6 +227,12 @@ fn pair_at(club: u8, other: u8) -> usize {
 
 fn row_at(rows: &[Totals], at: usize) -> Totals {
     rows.get(at).copied().unwrap_or(Totals::NONE)
+}
+
+fn add_record(records: &mut [Record], at: usize, more: &Totals) {
+    if at < records.len() {
+        records[at] = records[at].with(&Record::of(more));
+    }
 }
 
 fn add_at(rows: &mut [Totals], at: usize, more: &Totals) {

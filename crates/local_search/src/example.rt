@@ -27,7 +27,28 @@ pub fn walk(
     ensures { IfOk result (λ found. IfSome found (λ example.
         IsExample sheet.now season.now question.now example.0 example.1)) }
 {
-    match ended(alloc, sheet, season, question, None, trials)? {
+    let board = Board::of(alloc, sheet, season)?;
+    walk_on(alloc, sheet, season, question, board, trials)
+}
+
+/// The same, where the board of the season is there: all that is played, and 0:0 elsewhere.
+pub fn walk_on(
+    alloc: Global,
+    sheet: &Sheet,
+    season: &Season,
+    question: &Question,
+    board: Board,
+    trials: u32,
+) -> Result<Option<(Finish, Lots)>, OutOfMemory>
+    requires league { IsLeague sheet.now season.now }
+    requires in_range { question.now.club < length sheet.now.clubs }
+    ensures { IfOk result (λ found. IfSome found (λ example.
+        IsExample sheet.now season.now question.now example.0 example.1)) }
+{
+    let mut begun = board;
+    let clubs = sheet.clubs.len() as u8;
+    Start::of(&begun, question, clubs, sheet.goal_limit).set(&mut begun);
+    match ended(alloc, sheet, season, question, begun, trials)? {
         Some(ended) => example_of(alloc, sheet, season, question, ended),
         None => Ok(None),
     }
@@ -48,30 +69,26 @@ pub fn walk_from(
     ensures { IfOk result (λ found. IfSome found (λ example.
         IsExample sheet.now season.now question.now example.0 example.1)) }
 {
-    match ended(alloc, sheet, season, question, Some(from), trials)? {
+    let mut board = Board::of(alloc, sheet, season)?;
+    board.put_all(from.as_season().scores());
+    match ended(alloc, sheet, season, question, board, trials)? {
         Some(ended) => example_of(alloc, sheet, season, question, ended),
         None => Ok(None),
     }
 }
 
-// The season as it ends where a walk finds nothing missing: one from this finish, or from one that
-// favours the claim.
+// The season as it ends where a walk that begins at the board finds nothing missing.
 fn ended(
     alloc: Global,
     sheet: &Sheet,
     season: &Season,
     question: &Question,
-    from: Option<&Finish>,
+    board: Board,
     trials: u32,
 ) -> Result<Option<Season>, OutOfMemory>
     requires { IsLeague sheet.now season.now }
 {
-    let mut board = Board::of(alloc, sheet, season)?;
     let clubs = sheet.clubs.len() as u8;
-    match from {
-        Some(finish) => board.put_all(finish.as_season().scores()),
-        None => Start::of(&board, question, clubs, sheet.goal_limit).set(&mut board),
-    }
     let mut walk = Trials::begin(alloc, sheet, question, board, clubs)?;
     if walk.run(trials) {
         Ok(Some(walk.board().ended(alloc, season)?))

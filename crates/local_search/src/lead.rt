@@ -12,6 +12,13 @@ pub struct Record {
 }
 
 impl Record {
+    /// That of no match.
+    pub const NONE: Record = Record {
+        points: 0,
+        difference: 0,
+        goals: 0,
+    };
+
     /// That of a row.
     pub fn of(row: &Totals) -> Record {
         Record {
@@ -21,11 +28,13 @@ impl Record {
         }
     }
 
-    /// Takes a row more.
-    pub fn add(&mut self, row: &Totals) {
-        self.points = self.points.wrapping_add(row.points);
-        self.difference = self.difference.wrapping_add(row.difference);
-        self.goals = self.goals.wrapping_add(row.goals);
+    /// Both together.
+    pub fn with(&self, other: &Record) -> Record {
+        Record {
+            points: self.points.wrapping_add(other.points),
+            difference: self.difference.wrapping_add(other.difference),
+            goals: self.goals.wrapping_add(other.goals),
+        }
     }
 }
 

@@ -101,9 +101,9 @@ impl<'a> TieCosts<'a> {
 
     // What the matches of a club against the rivals and the question's club add up to.
     fn record(&self, rivals: ClubSet, club: u8) -> Record {
-        let mut record = Record::of(&self.board.pair(club, self.question.club));
+        let mut record = self.board.pair(club, self.question.club);
         for rival in rivals.clubs() {
-            record.add(&self.board.pair(club, rival));
+            record = record.with(&self.board.pair(club, rival));
         }
         record
     }

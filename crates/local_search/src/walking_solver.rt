@@ -7,7 +7,8 @@ ghost use Rattle.league_core.specs.search.Zones.{IsZoneFor};
 ghost use Rattle.league_core.specs.search.Options.{has_finish};
 ghost use Rattle.reason_core.specs.inside.Findings.{IsTrueFinding};
 
-use crate::example::walk;
+use crate::board::Board;
+use crate::example::walk_on;
 use league_core::{Literal, OutOfMemory, Question, Season, Sheet};
 use reason_core::{Finding, Solver};
 use score_box::Played;
@@ -26,6 +27,7 @@ pub struct WalkingSolver<'a, W: Solver> {
     inner: W,
     latest: Option<Question>,
     zones: u32,
+    board: Option<Board>,
 }
 
 impl<'a, W: Solver> Model for WalkingSolver<'a, W> {
@@ -57,6 +59,7 @@ impl<'a, W: Solver> WalkingSolver<'a, W> {
             inner,
             latest: None,
             zones: 0,
+            board: None,
         }
     }
 
@@ -70,22 +73,31 @@ impl<'a, W: Solver> WalkingSolver<'a, W> {
             self.latest = Some(*question);
             self.zones = 1;
         }
-        trials_at(self.zones) != 0
+        self.zones == 100 || self.zones == 200
     }
 
-    // The example of a walk.
-    fn walked(&self, question: &Question) -> Result<Option<Finding>, OutOfMemory>
+    // The board of the season, which is made for the first walk.
+    fn begun(&mut self) -> Result<Board, OutOfMemory>
+        ensures { self.new ≡ self.old }
+    {
+        let board = match &self.board {
+            Some(board) => board.copy(self.alloc)?,
+            None => Board::of(self.alloc, self.sheet, self.season)?,
+        };
+        if self.board.is_none() {
+            self.board = Some(board.copy(self.alloc)?);
+        }
+        Ok(board)
+    }
+
+    // The example of a walk over the board of the season.
+    fn walked(&self, question: &Question, board: Board) -> Result<Option<Finding>, OutOfMemory>
         requires { IsQuestionOf self.now.sheet question.now }
         ensures { IfOk result (λ found. IfSome found (λ finding. (zone : List Literal)
             → IsTrueFinding self.now.sheet self.now.season question.now zone finding)) }
     {
-        match walk(
-            self.alloc,
-            self.sheet,
-            self.season,
-            question,
-            trials_at(self.zones),
-        )? {
+        let trials = trials_at(self.zones, board.count());
+        match walk_on(self.alloc, self.sheet, self.season, question, board, trials)? {
             Some((finish, lots)) => Ok(Some(Finding::Won(finish, lots))),
             None => Ok(None),
         }
@@ -108,7 +120,8 @@ impl<'a, W: Solver> Solver for WalkingSolver<'a, W> {
         ensures same_season { self.new.season ≡ self.old.season }
     {
         if self.count(question) {
-            if let Some(finding) = self.walked(question)? {
+            let board = self.begun()?;
+            if let Some(finding) = self.walked(question, board)? {
                 return Ok(finding);
             }
         }
@@ -116,11 +129,12 @@ impl<'a, W: Solver> Solver for WalkingSolver<'a, W> {
     }
 }
 
-// The trials of a walk where a question has had so many zones in a row; 0 where none is due.
-fn trials_at(zones: u32) -> u32 {
-    match zones {
-        100 => 250,
-        200 => 2000,
-        _ => 0,
+// The trials of a walk where a question has had so many zones in a row, and so many matches are
+// open: the more there are, the later examples come in a long walk.
+fn trials_at(zones: u32, open: u16) -> u32 {
+    if zones < 200 {
+        250
+    } else {
+        u32::from(open) * 50 + 400
     }
 }

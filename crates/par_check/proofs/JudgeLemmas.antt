@@ -45,33 +45,3 @@ item_told judged item row (Err halt.Short) due goes =
     let named = λ (it : Expected). unproved_in (ending_from judged item.from (it ∷ []) 0) in
     ap unproved_in (sym (goes [] 0)) ∙ sym (ap named due)
 item_told judged item row (Err halt.OutOfMemory) due goes = tt
-
--- what each item says, where all of them were judged
-each_told : {E : Type 0} (f : Item → Option ℕ) (items : List Item) (found : List (Option ℕ))
-    (results : List (Result (Option ℕ) E)) → results ≡ map Ok found
-    → AllZip (λ item result. IfOk result (λ it. it ≡ f item)) items results
-    → found ≡ map f items
-each_told {E} f items found results is each =
-    let P : List (Result (Option ℕ) E) → Type 0 =
-    λ them. AllZip (λ item result. IfOk result (λ it. it ≡ f item)) items them in
-    by items found (subst P is each)
-  where
-    by : (some : List Item) (them : List (Option ℕ))
-        → AllZip (λ item (result : Result (Option ℕ) E). IfOk result (λ it. it ≡ f item)) some
-        (map Ok them) → them ≡ map f some
-    by [] [] told = refl
-    by [] (one ∷ more) told = absurd told
-    by (item ∷ some) [] told = absurd told
-    by (item ∷ some) (one ∷ more) told = λ i. told.0 i ∷ by some more told.1 i
-
--- the collection of what the items say
-pub made_told : {E V : Type 0} (items_in : V → List (Option ℕ)) (f : Item → Option ℕ)
-    (items : List Item) (results : List (Result (Option ℕ) E)) (made : Result V E)
-    → AllZip (λ item result. IfOk result (λ it. it ≡ f item)) items results
-    → MatchResult made
-    (λ all. (found : List (Option ℕ)) × (results ≡ map Ok found) × (items_in all ≡ found))
-    (λ error. Contains results (Err error))
-    → IfOk made (λ all. items_in all ≡ map f items)
-made_told items_in f items results (Ok all) each is =
-    is.2 ∙ each_told f items is.0 results is.1 each
-made_told items_in f items results (Err error) each is = tt

@@ -79,45 +79,6 @@ outline_begins judged row from left first before =
     ∙ ap (λ it. ending_by_shapes judged row from it before) (sym first)
     ∙ ap (ending_by_shapes judged row from left) (omega arith)
 
--- one line more
-pub outline_on : (judged : ReportView) (row : ItemRow) (at : ℕ) (left rest new : List ItemDue)
-    (due : ItemDue) (more : DueAfter) (token : Token) (here one : ℕ)
-    → left ≡ due ∷ rest → drop at judged.tokens ≡ token ∷ drop (at + 1) judged.tokens
-    → shapes_left judged.basis row (Some more)
-    ≡ shapes_after judged.basis (shape_in judged.basis row due) token
-    → new ≡ left_by more ++ rest
-    → ((unsettled : ℕ) → with_unsettled unsettled token ≡ unsettled + one)
-    → ending_by_shapes judged row at left here
-    ≡ ending_by_shapes judged row (at + 1) new (here + one)
-outline_on judged row at left rest new due more token here one first there says put counted =
-    let shapes = map (shape_in judged.basis row) in
-    let behind = drop (at + 1) judged.tokens in
-    let basis = judged.basis in
-    ap (λ it. shapes_ending basis it (shapes left) at here) there
-    ∙ ap (λ it. shapes_ending basis (token ∷ behind) (shapes it) at here) first
-    ∙ ap (λ it. by_shapes it at (λ more. shapes_ending basis behind (more ++ shapes rest) (at + 1)
-    (with_unsettled here token))) (sym says)
-    ∙ ap (λ it. shapes_ending basis behind it (at + 1) (with_unsettled here token))
-    (sym (map-append (shape_in basis row) (left_by more) rest))
-    ∙ ap (λ it. shapes_ending basis behind (shapes it) (at + 1) (with_unsettled here token))
-    (sym put)
-    ∙ ap (ending_by_shapes judged row (at + 1) new) (counted here)
-
--- a line that may not come there
-pub outline_bad : (judged : ReportView) (row : ItemRow) (at : ℕ) (left rest : List ItemDue)
-    (due : ItemDue) (token : Token) (here : ℕ)
-    → left ≡ due ∷ rest → drop at judged.tokens ≡ token ∷ drop (at + 1) judged.tokens
-    → None ≡ shapes_after judged.basis (shape_in judged.basis row due) token
-    → ending_by_shapes judged row at left here ≡ bad_line at
-outline_bad judged row at left rest due token here first there says =
-    let shapes = map (shape_in judged.basis row) in
-    let behind = drop (at + 1) judged.tokens in
-    let basis = judged.basis in
-    ap (λ it. shapes_ending basis it (shapes left) at here) there
-    ∙ ap (λ it. shapes_ending basis (token ∷ behind) (shapes it) at here) first
-    ∙ ap (λ it. by_shapes it at (λ more. shapes_ending basis behind (more ++ shapes rest) (at + 1)
-    (with_unsettled here token))) (sym says)
-
 -- nothing is due
 pub outline_whole : (judged : ReportView) (row : ItemRow) (at : ℕ) (left : List ItemDue) (here : ℕ)
     → left ≡ [] → ending_by_shapes judged row at left here ≡ whole_at at here
@@ -128,11 +89,3 @@ outline_whole judged row at left here none =
         ≡ whole_at at here
     of_lines [] = refl
     of_lines (token ∷ tokens) = refl
-
--- something is due, and no line is left
-pub outline_short : (judged : ReportView) (row : ItemRow) (at : ℕ) (left rest : List ItemDue)
-    (due : ItemDue) (here : ℕ) → left ≡ due ∷ rest → drop at judged.tokens ≡ []
-    → ending_by_shapes judged row at left here ≡ short
-outline_short judged row at left rest due here first none =
-    ap (λ it. shapes_ending judged.basis it (map (shape_in judged.basis row) left) at here) none
-    ∙ ap (λ it. shapes_ending judged.basis [] (map (shape_in judged.basis row) it) at here) first

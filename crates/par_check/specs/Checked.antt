@@ -1,5 +1,5 @@
 -- What checking a whole report comes to: ask after ask, and by its first stop.
-use Rattle.std.specs.Prelude.{◌≡◌, ◌<◌, ◌≤◌, ℕ, ◌*◌, length, List, Result, Ok, Err}
+use Rattle.std.specs.Prelude.{◌≡◌, ◌<◌, ◌≤◌, ℕ, ◌*◌, length, List, Result, Ok, Err, Option, map}
 use Rattle.league_core.specs.declared.sheet.Sheet.{Sheet}
 use Rattle.cert_check.specs.declared.stop.Accepted.{Accepted}
 use Rattle.cert_check.specs.declared.stop.CheckStop.{CheckStop}
@@ -8,9 +8,11 @@ use Rattle.cert_check.specs.declared.stop.CheckStopAt.{CheckStopAt}
 use Rattle.cert_check.specs.declared.stop.CheckStopAt.TheVariants as halt
 use Rattle.cert_check.specs.LineLists.{NumberedLine, tokens_of, line_number_at}
 use Rattle.cert_check.specs.Machine.{Ending, whole_at, bad_line, no_proof, short, rows_of}
+use Rattle.cert_check.specs.Machine.{basis_of}
 use Rattle.par_check.specs.declared.asks.Asks.{Asks}
-use Rattle.par_check.specs.FirstStops.{ending_of_asks, first_stop_of}
-use Rattle.par_check.specs.Cuts.{bases_in, grammar_cut}
+use Rattle.par_check.specs.declared.asks.Item.{Item}
+use Rattle.par_check.specs.FirstStops.{ending_of_asks, first_among, first_stop, first_stop_of}
+use Rattle.par_check.specs.Cuts.{bases_in, grammar_cut, season_at, unproved_of}
 
 -- what the answers come to, read one after another
 abbrev pub ending_in : Sheet → Asks → List NumberedLine → Ending
@@ -20,6 +22,19 @@ ending_in sheet asks lines = ending_of_asks (tokens_of lines) (bases_in sheet as
 abbrev pub first_stop_in : Sheet → Asks → List NumberedLine → Ending
 first_stop_in sheet asks lines =
     first_stop_of (tokens_of lines) (grammar_cut sheet asks lines)
+
+-- the line of an item that is no proof, where it is judged for itself by the season of its ask
+abbrev pub judged_of : Sheet → Asks → List NumberedLine → Item → Option ℕ
+judged_of sheet asks lines item =
+    unproved_of (tokens_of lines) (basis_of sheet (season_at sheet asks item.ask) 0) item
+
+-- the first stop of a report is the first line that is no proof of these items, each judged for
+-- itself, else the grammar's
+abbrev pub IsToldByItems : Sheet → Asks → List NumberedLine → List Item → Type 0
+IsToldByItems sheet asks lines items =
+    first_stop_in sheet asks lines
+    ≡ first_stop (first_among (map (judged_of sheet asks lines) items))
+    (grammar_cut sheet asks lines).ending
 
 -- how many rows the answers have
 abbrev pub rows_in : Sheet → Asks → ℕ

@@ -3,6 +3,6 @@ pub mod FirstStops
 pub mod Shapes
 pub mod Outlines
 pub mod Cuts
-pub mod Batches
 pub mod Checked
+pub mod Places
 pub mod FeedAsks

@@ -1,11 +1,13 @@
 //! A report cut into items, by the grammar alone.
 
-ghost use Rattle.std.specs.Prelude.{◌≡◌, ◌<◌, ◌≤◌, ◌^◌, [], ◌∷◌, ◌++◌, Err, IfOk, IsTrue, OnErr};
-ghost use Rattle.std.specs.Prelude.{OnOk, length};
+ghost use Rattle.std.specs.Prelude.{◌≡◌, ◌<◌, ◌≤◌, ◌^◌, [], ◌∷◌, ◌++◌, All, Err, IfOk, IsTrue};
+ghost use Rattle.std.specs.Prelude.{OnErr, OnOk, length};
 ghost use Rattle.cert_check.specs.Machine.{rows_of};
 ghost use Rattle.par_check.specs.FirstStops.{rows_wanted, wanted_by_ask};
 ghost use Rattle.par_check.specs.Cuts.{AreAsks, CutsOver, IsReportCut, IsCutRead, KeepsItems};
+ghost use Rattle.par_check.specs.Cuts.{IsItemIn};
 ghost use Rattle.par_check.specs.Cuts.{end_outlined, is_of_lines, row_wanted};
+ghost use Rattle.par_check.specs.Checked.{IsToldByItems};
 
 use crate::asks::{Asks, Cut, Item, advance};
 use crate::item_rows::{row_at, rows_in_answer};
@@ -26,7 +28,11 @@ pub struct CutRead {
 pub fn cut(alloc: Global, sheet: &Sheet, asks: &Asks, lines: &LineList) -> Result<Cut, OutOfMemory>
     requires asks { AreAsks sheet.now asks.now }
     requires few { length lines.now < 2 ^ 32 }
-    ensures { IfOk result (IsReportCut sheet.now asks.now lines.now) }
+    ensures cut { IfOk result (IsReportCut sheet.now asks.now lines.now) }
+    ensures within { IfOk result (λ cut. All
+        (IsItemIn sheet.now (length asks.now.epochs.items) (length lines.now)) cut.items.items) }
+    // What `judge_item` says of each is what `check_all` comes to.
+    ensures told { IfOk result (λ cut. IsToldByItems sheet.now asks.now lines.now cut.items.items) }
 {
     let read = read_cut(alloc, sheet, asks, lines)?;
     let stop = match read.ending {

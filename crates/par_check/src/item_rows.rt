@@ -1,6 +1,6 @@
 //! The rows of an answer by their positions.
 
-ghost use Rattle.std.specs.Prelude.{◌≡◌, ◌<◌, IsTrue, get_or, length};
+ghost use Rattle.std.specs.Prelude.{◌≡◌, ◌<◌, ◌^◌, IsTrue, get_or, length};
 ghost use Rattle.league_core.specs.game.Sheets.{IsWithinLimits, is_line};
 ghost use Rattle.cert_check.specs.ExpectedItems.{ask_row, verdict_row};
 ghost use Rattle.cert_check.specs.Machine.{rows_of};
@@ -11,7 +11,8 @@ use league_core::Sheet;
 /// How many rows an answer has: one for each line and each club.
 pub fn rows_in_answer(sheet: &Sheet) -> usize
     requires { IsWithinLimits sheet.now }
-    ensures { result ≡ length (rows_of sheet.now) }
+    ensures value { result ≡ length (rows_of sheet.now) }
+    ensures few { result < 2 ^ 32 }
 {
     sheet.lines.len() * sheet.clubs.len()
 }

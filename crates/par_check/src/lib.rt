@@ -6,11 +6,9 @@
 #![tactic(auto)]
 
 mod asks;
-mod batch;
 mod cutting;
 mod feed_asks;
 mod feed_report;
-mod first;
 mod input;
 mod item_due;
 mod item_head;
@@ -18,7 +16,11 @@ mod item_rows;
 mod judging;
 mod laws;
 mod outline;
+mod places;
+mod reading;
 mod report_check;
+mod runs;
+mod side_by_side;
 
 pub use asks::{Asks, Cut, Item};
 pub use cutting::{CutRead, cut, read_cut};

@@ -1,18 +1,21 @@
 //! A whole report checked, ask after ask or with its items side by side.
 
-ghost use Rattle.std.specs.Prelude.{◌≡◌, ◌<◌, ◌≤◌, ◌^◌, ℕ, Err, length};
+ghost use Rattle.std.specs.Prelude.{◌≡◌, ◌<◌, ◌≤◌, ◌^◌, ℕ, Ok, Err, length};
 ghost use Rattle.league_core.specs.game.Sheets.{IsWithinLimits};
 ghost use Rattle.cert_check.specs.Machine.{Ending, whole_at};
-ghost use Rattle.par_check.specs.Cuts.{AreAsks, EndsSo, IsCutRead};
+ghost use Rattle.par_check.specs.Cuts.{AreAsks};
 ghost use Rattle.par_check.specs.Checked.{AnswersSo, StopsSo, StopsWithin, ending_in};
 ghost use Rattle.par_check.specs.Checked.{first_stop_in, rows_in};
+ghost use Rattle.par_check.specs.Places.{ReadsToEnd, IsWholeReport, ReadsWhole};
 
-use crate::asks::{Asks, advance};
-use crate::cutting::{CutRead, read_cut};
-use crate::first::first_unproved;
+use crate::asks::Asks;
 use crate::item_rows::rows_in_answer;
-use cert_check::{Accepted, CheckStop, CheckStopAt, LineList, PartRead, Report};
-use league_core::{Season, Sheet};
+use crate::places::{Place, RunRead, Whole, read_both};
+use crate::reading::read_run;
+use crate::runs::last_run;
+use crate::side_by_side::read_together;
+use cert_check::{Accepted, CheckStop, CheckStopAt, LineList, PartRead};
+use league_core::Sheet;
 use rayon::current_num_threads;
 use std::alloc::Global;
 use std::thread::Threads;
@@ -37,84 +40,61 @@ pub fn check_all<R: Threads + Sync>(
     ensures first { AnswersSo lines.now (rows_in sheet.now asks.now)
         (first_stop_in sheet.now asks.now lines.now) result }
 {
-    let processors = current_num_threads(rt);
-    let items = asks.epochs.len().saturating_mul(rows_in_answer(sheet));
-    if processors < 2 || lines.len() < FEWEST_LINES || items < processors {
-        return check_each(alloc, sheet, asks, lines);
-    }
-    let read = read_cut(alloc, sheet, asks, lines)?;
-    if read.items.len() < processors {
-        return check_each(alloc, sheet, asks, lines);
-    }
-    check_items(rt, alloc, sheet, asks, lines, read)
-}
-
-// By the items of a cut.
-fn check_items<R: Threads + Sync>(
-    rt: &R,
-    alloc: Global,
-    sheet: &Sheet,
-    asks: &Asks,
-    lines: &LineList,
-    read: CutRead,
-) -> Result<Accepted, CheckStop>
-    requires asks { AreAsks sheet.now asks.now }
-    requires few { length lines.now < 2 ^ 32 }
-    requires read { IsCutRead sheet.now asks.now lines.now read.items.items read.ending }
-    ensures { AnswersSo lines.now (rows_in sheet.now asks.now)
-        (first_stop_in sheet.now asks.now lines.now) result }
-{
-    match first_unproved(rt, alloc, sheet, asks, lines, read.items.as_slice())? {
-        Some(at) => Err(told(lines, CheckStopAt::NoProof(at))),
-        None => grammar_told(sheet, asks, lines, read.ending),
-    }
-}
-
-// What the grammar alone comes to.
-fn grammar_told(
-    sheet: &Sheet,
-    asks: &Asks,
-    lines: &LineList,
-    ending: Result<PartRead, CheckStopAt>,
-) -> Result<Accepted, CheckStop>
-    requires limits { IsWithinLimits sheet.now }
-    requires few { length asks.now.epochs.items < 2 ^ 32 }
-    requires within { (it : Ending) × EndsSo (length lines.now) it ending }
-    ensures { (it : Ending) → EndsSo (length lines.now) it ending
-        → AnswersSo lines.now (rows_in sheet.now asks.now) it result }
-{
-    match ending {
+    let whole = Whole {
+        alloc,
+        sheet,
+        asks,
+        lines,
+    };
+    match read_whole(rt, &whole) {
         Ok(found) => accepted(sheet, asks, lines, found),
         Err(stop) => Err(told(lines, stop)),
     }
 }
 
-// The answers one after another, each as the part of one ask.
-fn check_each(
-    alloc: Global,
-    sheet: &Sheet,
-    asks: &Asks,
-    lines: &LineList,
-) -> Result<Accepted, CheckStop>
-    requires asks { AreAsks sheet.now asks.now }
-    requires few { length lines.now < 2 ^ 32 }
-    ensures { AnswersSo lines.now (rows_in sheet.now asks.now)
-        (ending_in sheet.now asks.now lines.now) result }
+// The answers to all asks, on one thread or on several.
+fn read_whole<R: Threads + Sync>(rt: &R, whole: &Whole) -> Result<PartRead, CheckStopAt>
+    requires { IsWholeReport whole.now }
+    ensures { ReadsToEnd (length whole.now.lines.now)
+        (ending_in whole.now.sheet.now whole.now.asks.now whole.now.lines.now) result }
 {
-    let mut season = Season::unplayed(alloc, sheet.clubs.len(), sheet.fixtures.len())?;
-    let mut reached = PartRead {
+    let begin = Place {
+        ask: 0,
+        row: 0,
         next: 0,
-        unsettled: 0,
     };
-    for ask in 0..asks.epochs.len() {
-        let epoch = advance(sheet, asks, &mut season, ask);
-        let report = Report::new(alloc, sheet, &season, u64::from(epoch), lines)?;
-        match report.part(reached.next) {
-            Ok(found) => reached = reached.and(found),
-            Err(stop) => return Err(told(lines, stop)),
+    let processors = current_num_threads(rt);
+    if processors < 2 || whole.lines.len() < FEWEST_LINES {
+        let none = RunRead {
+            to: begin,
+            unsettled: 0,
+        };
+        read_rest(whole, none)
+    } else {
+        match read_together(rt, whole, processors, begin) {
+            Ok(reached) => read_rest(whole, reached),
+            Err(stop) => Err(stop),
         }
     }
-    accepted(sheet, asks, lines, reached)
+}
+
+// What is left behind the place that was reached.
+fn read_rest(whole: &Whole, reached: RunRead) -> Result<PartRead, CheckStopAt>
+    requires whole { IsWholeReport whole.now }
+    requires reached { ReadsWhole whole.now (record { ask = 0; row = 0; next = 0 }) (Ok reached) }
+    ensures { ReadsToEnd (length whole.now.lines.now)
+        (ending_in whole.now.sheet.now whole.now.asks.now whole.now.lines.now) result }
+{
+    match read_run(whole, last_run(whole, reached.to)) {
+        Ok(found) => {
+            let both = read_both(reached, found);
+            Ok(PartRead {
+                next: both.to.next,
+                unsettled: both.unsettled,
+            })
+        }
+        Err(stop) => Err(stop),
+    }
 }
 
 // The report is whole.

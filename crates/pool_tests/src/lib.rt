@@ -4,7 +4,7 @@
 //! one in which a thousand tickets come back without work. `drawn` has the lists of steps,
 //! `decided` the splits that a result decides, `pairs` a pool and a plain one that make the steps;
 //! the plain one is in `plain` and `plain_change`, what is given back in `held`, what can be worked
-//! on and asked in `fit`.
+//! on and asked in `fit`. `saved` has saved texts.
 #![tactic(auto)]
 
 #[cfg(test)]
@@ -25,6 +25,8 @@ mod plain;
 mod plain_change;
 #[cfg(test)]
 mod rows;
+#[cfg(test)]
+mod saved;
 #[cfg(test)]
 mod seen;
 #[cfg(test)]

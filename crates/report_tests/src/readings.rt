@@ -113,3 +113,14 @@ fn other_texts_have_no_form(rt: HostRuntime) -> Result<(), Fail> {
     assert!(rt; matches!(read_line(alloc, b"[\"\xff\"]"), Err(LineStop::NoForm)));
     Ok(())
 }
+
+#[test]
+fn a_line_without_form_is_refused_in_words(rt: HostRuntime) -> Result<(), Fail> {
+    let stop = LineStop::NoForm;
+    let printed = format!(in rt.alloc(); "{stop}")?;
+    assert_eq!(rt;
+        printed.as_str(),
+        "the text has none of the forms of a proof line"
+    );
+    Ok(())
+}

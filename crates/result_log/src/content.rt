@@ -31,7 +31,7 @@ pub fn read_content(
     requires numbers { length sheet.now.fixtures ≤ 65535 }
     ensures answer { AnswersContent (entry_in sheet.now season.now events proofs content.now)
         result }
-    ensures told { IfOk result (λ found. IfSome found (λ entry.
+    ensures is_entry { IfOk result (λ found. IfSome found (λ entry.
         IsEntryAt season.now events proofs entry)) }
 {
     match fields_of(alloc, content) {

@@ -40,7 +40,7 @@ pub fn next_entry<S: Source>(
     ensures reads { ReadsEntry (entry_in sheet.now season.now events proofs)
         (contents_to_come reader.old (S.left source.old))
         (contents_to_come reader.new (S.left source.new)) result }
-    ensures told { IfOk result (λ entry. IsEntryAt season.now events proofs entry) }
+    ensures is_entry { IfOk result (λ entry. IsEntryAt season.now events proofs entry) }
 
     // Which lines of the input were passed, all but the last without a record, and where the reader
     // is left. At the end nothing is left of the source; at a read fault no whole line is in hand.
@@ -80,7 +80,7 @@ fn take_line<S: Source>(
     ensures reads { ReadsRecord (entry_in sheet.now season.now events proofs)
         (contents_to_come reader.old (S.left source.old))
         (contents_to_come reader.new (S.left source.new)) result }
-    ensures told { IfSome result (λ answer. IfOk answer (λ entry.
+    ensures is_entry { IfSome result (λ answer. IfOk answer (λ entry.
         IsEntryAt season.now events proofs entry)) }
     ensures passes { PassesTo reader.old reader.new (S.left source.old) (S.left source.new)
         (S.ended source.old) (S.ended source.new)
@@ -118,7 +118,7 @@ fn entry_in(
     requires numbers { length sheet.now.fixtures ≤ 65535 }
     ensures answer { AnswersLine number (entry_in sheet.now season.now events proofs content.now)
         result }
-    ensures told { IfSome result (λ answer. IfOk answer (λ entry.
+    ensures is_entry { IfSome result (λ answer. IfOk answer (λ entry.
         IsEntryAt season.now events proofs entry)) }
 {
     match read_content(alloc, sheet, season, events, proofs, content) {

@@ -32,7 +32,7 @@ pub fn read_event(
     requires clubs { length sheet.now.clubs ≤ 255 }
     requires numbers { length sheet.now.fixtures ≤ 65535 }
     ensures value { result ≡ entry_of sheet.now season.now events proofs fields.now }
-    ensures told { IfOk result (λ entry. IsEntryAt season.now events proofs entry) }
+    ensures is_entry { IfOk result (λ entry. IsEntryAt season.now events proofs entry) }
     ensures never { result ≢ Ok Entry.End }
 {
     let Some(kind) = Kind::of(fields, proofs) else {

@@ -5,7 +5,6 @@ ghost use Rattle.std.specs.Prelude.{if◌then◌else◌};
 ghost use Rattle.league_core.specs.game.Limits.{most_fixtures};
 ghost use Rattle.league_core.specs.search.Options.{options_in};
 ghost use Rattle.league_core.specs.game.Sums.{sum_of, points_of};
-ghost use Rattle.league_core.specs.inside.PairSums.{sum_against};
 ghost use Rattle.league_core.specs.game.Seasons.{IsLeague, IsSeasonOf};
 ghost use Rattle.league_core.specs.game.Sheets.{IsWithinLimits};
 ghost use Rattle.score_box.specs.inside.Boxes.{AreCellsOf};
@@ -117,18 +116,6 @@ impl<'a> Played<'a> {
         ensures { result ≡ points_of self.now.sheet self.now.season club }
     {
         self.totals(club).points - i32::from(self.season.deducted(club))
-    }
-
-    /// What a club's played matches against one rival add up to, seen from the club. Clubs count
-    /// from 0.
-    pub fn totals_against(&self, club: u8, rival: u8) -> Totals
-        requires club { club < length self.now.sheet.clubs }
-        requires rival { rival < length self.now.sheet.clubs }
-        ensures sums { AreTotals
-            (λ worth. sum_against worth self.now.sheet self.now.season club rival) result }
-        ensures near { AreTotalsNear 153000 result }
-    {
-        self.tables.of_pair(club, rival)
     }
 
     /// The tables of what was played.

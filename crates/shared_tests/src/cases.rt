@@ -68,7 +68,7 @@ pub fn meet<J: Job, R: Wait>(
 {
     match badges {
         [one, two] => match case {
-            Case::Overtaken => be_overtaken(rt, lock, front, one, two, event),
+            Case::Overtaken => be_overtaken(rt, alloc, sheet, lock, front, one, two, event),
             Case::Shut => {
                 lock.shut(rt, front);
                 be_over(rt, lock, one)

@@ -8,6 +8,7 @@ pub mod LinkLemmas
 pub mod ArenaLemmas
 pub mod FindLemmas
 pub mod LiveLemmas
+pub mod EndLemmas
 pub mod LendLemmas
 pub mod RoomLemmas
 pub mod LastPathLemmas

@@ -34,6 +34,7 @@ use Rattle.tree_reuse.specs.inside.Calls.{IsNodeOf, AreTestsOf}
 use Rattle.tree_reuse.specs.inside.Retargets.{halves_by, halves_in, leaf_kept, retargeted_from}
 use Rattle.tree_reuse.specs.inside.Retargets.{most_kept, within_limit, retargeted}
 use Rattle.tree_reuse.specs.inside.RetargetLaws.{IsKeptNode}
+use Rattle.tree_reuse.specs.inside.Asked.{may_ask, IsAskedNode, IsAskedTree}
 
 -- what holds of the tree in each case of the halves that stay holds of the one that is chosen
 in_each : (P : Tree → Type 0) (halves : Halves) (both yes_half no_half : Tree)
@@ -183,66 +184,58 @@ one_half_of_score sheet season zone (HomeMost fixture most) halves is = (λ _. r
 one_half_of_score sheet season zone (AwayMost fixture most) halves is = (λ _. refl, λ _. refl)
 one_half_of_score sheet season zone (Rival club) halves is = (λ yes. cc, λ no. cc)
 
--- a split of which both halves stay is proper in the new season, if it was in the one before
-proper_kept : (sheet : Sheet) (before season : Results) (question : Question)
+-- a split of which both halves stay is proper in the new season, if its test may be asked
+proper_kept : (sheet : Sheet) (season : Results) (question : Question)
     (was zone : List Literal) (test : Test) → SameMarks was zone
     → halves_in sheet season zone test ≡ Both
-    → is_proper sheet before question was test ≡ true
+    → may_ask sheet question was test ≡ true
     → is_proper sheet season question zone test ≡ true
-proper_kept sheet before season question was zone (Home fixture) same both proper =
+proper_kept sheet season question was zone (Home fixture) same both asked =
     and_from (nat_lt fixture (length sheet.fixtures))
-    (have_both_finish sheet season zone (Home fixture))
-    (and_parts (nat_lt fixture (length sheet.fixtures))
-    (have_both_finish sheet before was (Home fixture)) proper).0
+    (have_both_finish sheet season zone (Home fixture)) asked
     (both_by (has_finish sheet season (with_test zone (Home fixture) true))
     (has_finish sheet season (with_test zone (Home fixture) false)) both)
-proper_kept sheet before season question was zone (Draw fixture) same both proper =
+proper_kept sheet season question was zone (Draw fixture) same both asked =
     and_from (nat_lt fixture (length sheet.fixtures))
-    (have_both_finish sheet season zone (Draw fixture))
-    (and_parts (nat_lt fixture (length sheet.fixtures))
-    (have_both_finish sheet before was (Draw fixture)) proper).0
+    (have_both_finish sheet season zone (Draw fixture)) asked
     (both_by (has_finish sheet season (with_test zone (Draw fixture) true))
     (has_finish sheet season (with_test zone (Draw fixture) false)) both)
-proper_kept sheet before season question was zone (HomeMost fixture most) same both proper =
+proper_kept sheet season question was zone (HomeMost fixture most) same both asked =
     and_from (nat_lt fixture (length sheet.fixtures))
-    (have_both_finish sheet season zone (HomeMost fixture most))
-    (and_parts (nat_lt fixture (length sheet.fixtures))
-    (have_both_finish sheet before was (HomeMost fixture most)) proper).0
+    (have_both_finish sheet season zone (HomeMost fixture most)) asked
     (both_by (has_finish sheet season (with_test zone (HomeMost fixture most) true))
     (has_finish sheet season (with_test zone (HomeMost fixture most) false)) both)
-proper_kept sheet before season question was zone (AwayMost fixture most) same both proper =
+proper_kept sheet season question was zone (AwayMost fixture most) same both asked =
     and_from (nat_lt fixture (length sheet.fixtures))
-    (have_both_finish sheet season zone (AwayMost fixture most))
-    (and_parts (nat_lt fixture (length sheet.fixtures))
-    (have_both_finish sheet before was (AwayMost fixture most)) proper).0
+    (have_both_finish sheet season zone (AwayMost fixture most)) asked
     (both_by (has_finish sheet season (with_test zone (AwayMost fixture most) true))
     (has_finish sheet season (with_test zone (AwayMost fixture most) false)) both)
-proper_kept sheet before season question was zone (Rival club) same both proper =
+proper_kept sheet season question was zone (Rival club) same both asked =
     ap (λ b. nat_lt club (length sheet.clubs) && not (club == question.club) && not b)
     (ap (λ b. b || marked_after zone club) (sym (same.front club))
     ∙ ap (λ b. marked_before was club || b) (sym (same.back club)))
-    ∙ proper
+    ∙ asked
 
 -- a node of what is carried over is good, if its zone has a finish
-kept_nodes : (sheet : Sheet) (before season : Results) (question : Question)
+kept_nodes : (sheet : Sheet) (season : Results) (question : Question)
     (was zone : List Literal) (tree : Tree) → SameMarks was zone
     → has_finish sheet season zone ≡ true
-    → NodesMeet (IsProperNode sheet before question) was tree
+    → NodesMeet (IsAskedNode sheet question) was tree
     → NodesMeet (IsKeptNode sheet season question) zone
     (retargeted_from sheet season question zone tree)
-kept_nodes sheet before season question was zone open_leaf same some proper =
+kept_nodes sheet season question was zone open_leaf same some asked =
     record { proper = tt; reason = tt; some = some; not_new = refl }
-kept_nodes sheet before season question was zone (lent_leaf number) same some proper =
+kept_nodes sheet season question was zone (lent_leaf number) same some asked =
     record { proper = tt; reason = tt; some = some; not_new = refl }
-kept_nodes sheet before season question was zone (refuted_leaf reason fresh) same some proper =
+kept_nodes sheet season question was zone (refuted_leaf reason fresh) same some asked =
     at_leaf (has_reason sheet season question zone reason) refl
   where
     at_leaf : (b : Bool) → has_reason sheet season question zone reason ≡ b
         → NodesMeet (IsKeptNode sheet season question) zone (leaf_kept b reason)
     at_leaf true holds = record { proper = tt; reason = holds; some = some; not_new = refl }
     at_leaf false fails = record { proper = tt; reason = tt; some = some; not_new = refl }
-kept_nodes sheet before season question was zone (branch test fresh yes_half no_half) same some
-    proper =
+kept_nodes sheet season question was zone (branch test fresh yes_half no_half) same some
+    asked =
     let first = retargeted_from sheet season question (with_test zone test true) yes_half in
     let second = retargeted_from sheet season question (with_test zone test false) no_half in
     let of_score = one_half_of_score sheet season zone test (halves_in sheet season zone test)
@@ -251,19 +244,19 @@ kept_nodes sheet before season question was zone (branch test fresh yes_half no_
     (branch test false first second) (retargeted_from sheet season question zone yes_half)
     (retargeted_from sheet season question zone no_half)
     (λ both.
-    let still = proper_kept sheet before season question was zone test same both proper.0 in (
+    let still = proper_kept sheet season question was zone test same both asked.0 in (
       record { proper = still; reason = tt; some = some; not_new = refl },
-      kept_nodes sheet before season question (with_test was test true) (with_test zone test true)
+      kept_nodes sheet season question (with_test was test true) (with_test zone test true)
           yes_half (marks-with was zone test true same)
-          (half_has_finish sheet season question zone test true some still) proper.1,
-      kept_nodes sheet before season question (with_test was test false)
+          (half_has_finish sheet season question zone test true some still) asked.1,
+      kept_nodes sheet season question (with_test was test false)
           (with_test zone test false) no_half (marks-with was zone test false same)
-          (half_has_finish sheet season question zone test false some still) proper.2,
+          (half_has_finish sheet season question zone test false some still) asked.2,
     ))
-    (λ yes. kept_nodes sheet before season question (with_test was test true) zone yes_half
-    (marks-score was zone test true (of_score.0 yes) same) some proper.1)
-    (λ no. kept_nodes sheet before season question (with_test was test false) zone no_half
-    (marks-score was zone test false (of_score.1 no) same) some proper.2)
+    (λ yes. kept_nodes sheet season question (with_test was test true) zone yes_half
+    (marks-score was zone test true (of_score.0 yes) same) some asked.1)
+    (λ no. kept_nodes sheet season question (with_test was test false) zone no_half
+    (marks-score was zone test false (of_score.1 no) same) some asked.2)
 
 -- a tree within the limit stays, and one open leaf stands for another
 limit_cases : (P : Tree → Type 0) (tree : Tree) → (node_count tree ≤ most_kept → P tree)
@@ -309,53 +302,88 @@ node_count-retargeted sheet season question tree =
     (node_count-some tree, omega arith)
 
 -- each node of it is good
-pub kept_good : (sheet : Sheet) (before season : Results) (question : Question) (tree : Tree)
-    → NodesMeet (IsProperNode sheet before question) [] tree
+pub asked_good : (sheet : Sheet) (season : Results) (question : Question) (tree : Tree)
+    → IsAskedTree sheet question tree
     → NodesMeet (IsKeptNode sheet season question) [] (retargeted sheet season question tree)
 unfolding retargeted
-kept_good sheet before season question tree proper =
+asked_good sheet season question tree asked =
     let root = root_has_finish sheet season in
     limit_cases (NodesMeet (IsKeptNode sheet season question) [])
     (retargeted_from sheet season question [] tree)
-    (λ _. kept_nodes sheet before season question [] [] tree
-    (record { front = λ _. refl; back = λ _. refl }) root proper)
+    (λ _. kept_nodes sheet season question [] [] tree
+    (record { front = λ _. refl; back = λ _. refl }) root asked)
     (record { proper = tt; reason = tt; some = root; not_new = refl })
 
--- a proper split tests what the sheet has
-proper_is_of : (sheet : Sheet) (season : Results) (question : Question) (zone : List Literal)
-    (test : Test) → is_proper sheet season question zone test ≡ true → is_test_of sheet test ≡ true
-proper_is_of sheet season question zone (Home fixture) proper =
+-- a proper split may be asked
+proper_may_ask : (sheet : Sheet) (season : Results) (question : Question) (zone : List Literal)
+    (test : Test) → is_proper sheet season question zone test ≡ true
+    → may_ask sheet question zone test ≡ true
+proper_may_ask sheet season question zone (Home fixture) proper =
     (and_parts (nat_lt fixture (length sheet.fixtures))
     (have_both_finish sheet season zone (Home fixture)) proper).0
-proper_is_of sheet season question zone (Draw fixture) proper =
+proper_may_ask sheet season question zone (Draw fixture) proper =
     (and_parts (nat_lt fixture (length sheet.fixtures))
     (have_both_finish sheet season zone (Draw fixture)) proper).0
-proper_is_of sheet season question zone (HomeMost fixture most) proper =
+proper_may_ask sheet season question zone (HomeMost fixture most) proper =
     (and_parts (nat_lt fixture (length sheet.fixtures))
     (have_both_finish sheet season zone (HomeMost fixture most)) proper).0
-proper_is_of sheet season question zone (AwayMost fixture most) proper =
+proper_may_ask sheet season question zone (AwayMost fixture most) proper =
     (and_parts (nat_lt fixture (length sheet.fixtures))
     (have_both_finish sheet season zone (AwayMost fixture most)) proper).0
-proper_is_of sheet season question zone (Rival club) proper =
+proper_may_ask sheet season question zone (Rival club) proper = proper
+
+pub proper_asked : (sheet : Sheet) (season : Results) (question : Question)
+    (zone : List Literal) (tree : Tree)
+    → NodesMeet (IsProperNode sheet season question) zone tree
+    → NodesMeet (IsAskedNode sheet question) zone tree
+proper_asked sheet season question zone open_leaf proper = tt
+proper_asked sheet season question zone (lent_leaf number) proper = tt
+proper_asked sheet season question zone (refuted_leaf reason fresh) proper = tt
+proper_asked sheet season question zone (branch test fresh yes_half no_half) proper = (
+  proper_may_ask sheet season question zone test proper.0,
+  proper_asked sheet season question (with_test zone test true) yes_half proper.1,
+  proper_asked sheet season question (with_test zone test false) no_half proper.2,
+)
+
+-- so a tree of splits that were proper in the season before
+pub kept_good : (sheet : Sheet) (before season : Results) (question : Question) (tree : Tree)
+    → NodesMeet (IsProperNode sheet before question) [] tree
+    → NodesMeet (IsKeptNode sheet season question) [] (retargeted sheet season question tree)
+kept_good sheet before season question tree proper =
+    asked_good sheet season question tree (proper_asked sheet before question [] tree proper)
+
+-- a test that may be asked is of what the sheet has
+asked_is_of : (sheet : Sheet) (question : Question) (zone : List Literal) (test : Test)
+    → may_ask sheet question zone test ≡ true → is_test_of sheet test ≡ true
+asked_is_of sheet question zone (Home fixture) asked = asked
+asked_is_of sheet question zone (Draw fixture) asked = asked
+asked_is_of sheet question zone (HomeMost fixture most) asked = asked
+asked_is_of sheet question zone (AwayMost fixture most) asked = asked
+asked_is_of sheet question zone (Rival club) asked =
     (and_parts (nat_lt club (length sheet.clubs)) (not (club == question.club))
     (and_parts (nat_lt club (length sheet.clubs) && not (club == question.club))
-    (not (is_marked zone club)) proper).0).0
+    (not (is_marked zone club)) asked).0).0
 
--- so the tests of a tree of proper splits are the sheet's
+-- so the tests of a tree that may be asked are the sheet's
+pub asked_tests : (sheet : Sheet) (question : Question) (zone : List Literal) (tree : Tree)
+    → NodesMeet (IsAskedNode sheet question) zone tree → AreTestsOf sheet tree
+asked_tests sheet question zone open_leaf asked =
+    All-cons (IsNodeOf sheet) Open [] tt (All-nil (IsNodeOf sheet))
+asked_tests sheet question zone (lent_leaf number) asked =
+    All-cons (IsNodeOf sheet) (Lent number) [] tt (All-nil (IsNodeOf sheet))
+asked_tests sheet question zone (refuted_leaf reason fresh) asked =
+    All-cons (IsNodeOf sheet) (Refuted reason fresh) [] tt (All-nil (IsNodeOf sheet))
+asked_tests sheet question zone (branch test fresh yes_half no_half) asked =
+    All-cons (IsNodeOf sheet) (Split test fresh) (preorder yes_half ++ preorder no_half)
+    (asked_is_of sheet question zone test asked.0)
+    (All-append (IsNodeOf sheet) (preorder yes_half) (preorder no_half)
+    (asked_tests sheet question (with_test zone test true) yes_half asked.1)
+    (asked_tests sheet question (with_test zone test false) no_half asked.2))
+
 pub proper_tests : (sheet : Sheet) (season : Results) (question : Question) (zone : List Literal)
     (tree : Tree) → NodesMeet (IsProperNode sheet season question) zone tree → AreTestsOf sheet tree
-proper_tests sheet season question zone open_leaf proper =
-    All-cons (IsNodeOf sheet) Open [] tt (All-nil (IsNodeOf sheet))
-proper_tests sheet season question zone (lent_leaf number) proper =
-    All-cons (IsNodeOf sheet) (Lent number) [] tt (All-nil (IsNodeOf sheet))
-proper_tests sheet season question zone (refuted_leaf reason fresh) proper =
-    All-cons (IsNodeOf sheet) (Refuted reason fresh) [] tt (All-nil (IsNodeOf sheet))
-proper_tests sheet season question zone (branch test fresh yes_half no_half) proper =
-    All-cons (IsNodeOf sheet) (Split test fresh) (preorder yes_half ++ preorder no_half)
-    (proper_is_of sheet season question zone test proper.0)
-    (All-append (IsNodeOf sheet) (preorder yes_half) (preorder no_half)
-    (proper_tests sheet season question (with_test zone test true) yes_half proper.1)
-    (proper_tests sheet season question (with_test zone test false) no_half proper.2))
+proper_tests sheet season question zone tree proper =
+    asked_tests sheet question zone tree (proper_asked sheet season question zone tree proper)
 
 -- a tree of one node that has an open leaf is one
 pub open_leaf_is : (tree : Tree) → node_count tree ≡ 1 → has_open tree ≡ true → tree ≡ open_leaf

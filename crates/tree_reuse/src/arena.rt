@@ -2,6 +2,7 @@
 
 ghost use Rattle.std.specs.Prelude.{◌≡◌, ◌<◌, ◌≤◌, ◌+◌, ◌^◌, ℕ, [], ◌∷◌, length, slice_index};
 ghost use Rattle.std.specs.Prelude.{slice_index_or, slice_set, if◌then◌else◌};
+ghost use Rattle.std.specs.List.{insert, remove};
 ghost use Rattle.tree_reuse.specs.declared.node.Node.{Node};
 ghost use Rattle.tree_reuse.specs.inside.Arena.{with_kind, IsListed, marks, lent_mark, number_mark};
 ghost use Rattle.tree_reuse.specs.inside.Arena.{total, IsLeafAt, open_mark, times_in};
@@ -92,6 +93,36 @@ fn place_of(list: &[u32], leaf: u32) -> usize
     unreachable!()
 }
 
+/// Takes the number off a place of a list. The last one comes off without a move of others.
+#[tactic(auto, using(crate::proofs::EndLemmas::taken_last, crate::proofs::EndLemmas::last_there))]
+pub fn take_at(list: &mut RoomyList<u32>, place: usize) -> u32
+    requires in_range { place < length list.old.items }
+    ensures item { result ≡ slice_index_or list.old.items place result }
+    ensures items { list.new.items ≡ remove list.old.items place }
+    ensures room { list.new.room ≡ list.old.room + 1 }
+{
+    if list.len() - place == 1 {
+        list.pop()
+    } else {
+        list.remove(place)
+    }
+}
+
+// Puts a number at a place of a list. At the end it comes without a move of others.
+#[tactic(auto, using(crate::proofs::EndLemmas::put_last))]
+fn put_at(list: &mut RoomyList<u32>, place: usize, number: u32)
+    requires room { 0 < list.old.room }
+    requires in_range { place ≤ length list.old.items }
+    ensures items { list.new.items ≡ insert list.old.items place number }
+    ensures room { list.new.room + 1 ≡ list.old.room }
+{
+    if place == list.len() {
+        list.push(number);
+    } else {
+        list.insert(place, number);
+    }
+}
+
 /// Takes a leaf off a list that has it once.
 pub fn take_leaf(list: &mut RoomyList<u32>, leaf: u32)
     requires once { times_in leaf list.old.items ≡ 1 }
@@ -99,7 +130,7 @@ pub fn take_leaf(list: &mut RoomyList<u32>, leaf: u32)
     ensures room { list.new.room ≡ list.old.room + 1 }
 {
     let place = place_of(list.as_slice(), leaf);
-    let _leaf = list.remove(place);
+    let _leaf = take_at(list, place);
 }
 
 /// Puts two numbers that follow one another, the first one last, in place of a leaf in a list that
@@ -113,5 +144,5 @@ pub fn split_leaf(list: &mut RoomyList<u32>, leaf: u32, first: u32)
 {
     let place = place_of(list.as_slice(), leaf);
     let _leaf = list.replace(place, first + 1);
-    list.insert(place + 1, first);
+    put_at(list, place + 1, first);
 }

@@ -1,7 +1,8 @@
 //! The laws of trees and of what is carried over to another season: functions that do nothing, each
 //! with laws as contract.
 //!
-//! The statements on what is carried over are in `specs/inside/RetargetLaws.antt`.
+//! The statements on what is carried over are in `specs/inside/RetargetLaws.antt`, and on trees
+//! that anyone made in `specs/inside/Asked.antt`.
 
 ghost use Rattle.std.specs.Prelude.{◌≡◌};
 ghost use Rattle.tree_reuse.specs.inside.Calls.{most_nodes};
@@ -11,6 +12,7 @@ ghost use Rattle.tree_reuse.specs.inside.RetargetLaws.{RetargetedTreesHaveNothin
 ghost use Rattle.tree_reuse.specs.inside.RetargetLaws.{RetargetedTreesAreNoGreater};
 ghost use Rattle.tree_reuse.specs.inside.RetargetLaws.{RetargetedTreesAreGood};
 ghost use Rattle.tree_reuse.specs.inside.RetargetLaws.{ProperTreesAreOfTheSheet};
+ghost use Rattle.tree_reuse.specs.inside.Asked.{AskedTreesAreGood, ProperTreesAreAsked};
 
 use crate::halves::MOST_KEPT;
 use crate::tree::MOST_NODES;
@@ -21,12 +23,14 @@ pub fn constants_are_the_limits()
     ensures kept { MOST_KEPT ≡ most_kept }
 {}
 
-/// A tree that was carried over lends nothing, has nothing new and is no greater; if its splits
-/// were proper, all its nodes are good in the new season.
+/// A tree that was carried over lends nothing, has nothing new and is no greater; if its tests may
+/// be asked, all its nodes are good in the new season. Tests of proper splits may be.
 pub fn retargeting_keeps_what_holds()
     ensures lent { RetargetedTreesLendNothing }
     ensures fresh { RetargetedTreesHaveNothingNew }
     ensures nodes { RetargetedTreesAreNoGreater }
     ensures good { RetargetedTreesAreGood }
     ensures tests { ProperTreesAreOfTheSheet }
+    ensures asked { AskedTreesAreGood }
+    ensures proper { ProperTreesAreAsked }
 {}

@@ -12,7 +12,7 @@ ghost use Rattle.league_core.specs.inside.Lending.{times_lent, lent_count, put, 
 ghost use Rattle.tree_reuse.specs.inside.Calls.{IsFirstLent, Lending, literals_of, most_nodes};
 ghost use Rattle.tree_reuse.specs.inside.Arena.{IsPathTo};
 
-use crate::arena::{find, last_open, split_leaf, take_leaf, write};
+use crate::arena::{find, last_open, split_leaf, take_at, take_leaf, write};
 use crate::build::{Build, is_tree};
 use crate::last_path::move_to;
 use crate::list::list_nodes;
@@ -185,7 +185,7 @@ impl Tree {
         ensures { self.new ≡ put number open_leaf self.old }
     {
         let place = find(self.nodes.as_slice(), self.lent.as_slice(), number);
-        let leaf = self.lent.remove(place);
+        let leaf = take_at(&mut self.lent, place);
         write(&mut self.nodes, leaf, Kind::Open);
     }
 
@@ -195,7 +195,7 @@ impl Tree {
         ensures { self.new ≡ put number (refuted_leaf reason true) self.old }
     {
         let place = find(self.nodes.as_slice(), self.lent.as_slice(), number);
-        let leaf = self.lent.remove(place);
+        let leaf = take_at(&mut self.lent, place);
         write(&mut self.nodes, leaf, Kind::Refuted(reason, true));
         take_leaf(&mut self.live, leaf);
     }
@@ -207,7 +207,7 @@ impl Tree {
         ensures { self.new ≡ put number (branch test true open_leaf open_leaf) self.old }
     {
         let place = find(self.nodes.as_slice(), self.lent.as_slice(), number);
-        let leaf = self.lent.remove(place);
+        let leaf = take_at(&mut self.lent, place);
         let size = self.nodes.len() as u32;
         write(
             &mut self.nodes,

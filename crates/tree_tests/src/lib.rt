@@ -2,7 +2,8 @@
 //!
 //! `counts` tells a test what a call asks of it; `driven` has both bodies do the same calls, and
 //! `both` has trees worked by hand in both; `rows` has more of them, and `carried` those that are
-//! carried over a result; `order` tells which leaf is lent first.
+//! carried over a result; `order` tells which leaf is lent first. `toy_kind` is a search over
+//! any kind.
 #![tactic(auto)]
 
 #[cfg(test)]
@@ -17,3 +18,5 @@ mod driven;
 mod order;
 #[cfg(test)]
 mod rows;
+#[cfg(test)]
+mod toy_kind;

@@ -17,25 +17,15 @@ use Rattle.league_core.specs.declared.question.Question.{Question}
 use Rattle.league_core.specs.game.Results.{Results}
 use Rattle.league_core.specs.search.Trees.{has_open, is_refuted, is_spent, new_count}
 use Rattle.league_core.specs.inside.Lending.{lent_count}
-use Rattle.league_core.proofs.LendingLemmas.{length-lent_zones, lent_count-none, settled_is_refuted}
+use Rattle.league_core.proofs.LendingLemmas.{settled_is_refuted}
 use Rattle.branch_pool.specs.declared.question_state.Example.{Example}
 use Rattle.branch_pool.specs.declared.question_state.QuestionState.{QuestionState}
 use Rattle.branch_pool.specs.declared.ticket.Answer.TheVariants.{Won, NotYet}
 use Rattle.branch_pool.specs.inside.Calls.{answer_without, answer_of}
-use Rattle.branch_pool.specs.inside.States.{PoolView, out_count, present_epoch}
-use Rattle.branch_pool.specs.inside.Goodness.{IsSoundPool, IsGoodSeat, zones_due}
-use Rattle.branch_pool.proofs.RunLemmas.{nothing_out}
+use Rattle.branch_pool.specs.inside.States.{PoolView}
+use Rattle.branch_pool.specs.inside.Goodness.{IsSoundPool, IsGoodSeat}
 use Rattle.answer_rows.specs.NewTrees.{is_all_new}
 use Rattle.verdict_run.specs.inside.Working.{is_settled, AreSettled, is_known, AreAllNew}
-
--- if no number is out, no leaf is lent
-pub none_lent : (pool : PoolView) (place : ℕ) (seat : QuestionState) → IsSoundPool pool
-    → out_count pool.loans ≡ 0 → slice_get pool.seats place ≡ Some seat → lent_count seat.tree ≡ 0
-none_lent pool place seat sound home found =
-    lent_count-none seat.tree (λ number.
-    sym (length-lent_zones number seat.tree [])
-    ∙ ap length (sound.due number place seat found
-    ∙ ap (zones_due (present_epoch pool) place) (nothing_out pool.loans number home)))
 
 -- by what is not settled
 not_yet_by : (won refuted used : Bool) → (won || refuted || used) ≡ false

@@ -8,7 +8,9 @@ ghost use Rattle.league_core.specs.search.Zones.{are_literals_true};
 ghost use Rattle.what_if.specs.inside.SeasonParts.{IsFoundBelow, IsMemberAnyhow};
 
 use crate::literals::are_true;
+use crate::season_part::season_trials;
 use branch_pool::Example;
+use example_finish::try_example;
 use league_core::{
     Claim, Event, Finish, Fixture, Literal, OutOfMemory, Question, Score, Season, Sheet, Test,
 };
@@ -25,8 +27,8 @@ pub(crate) struct Hints<'a> {
 
 impl<'a> Hints<'a> {
     /// An example that is a member of the base, where one is sought after so many units and found.
-    /// With an example of the season a walk begins there, but with another score of the base's
-    /// match; without one there are walks for the season alone.
+    /// With an example of the season it is looked at with another score of the base's match first,
+    /// and walks begin there; without one there are walks for the season alone.
     pub fn found(
         &self,
         alloc: Global,
@@ -42,8 +44,12 @@ impl<'a> Hints<'a> {
             return Ok(None);
         };
         match self.example {
+            Some(example) if trials == 0 => self.looked(alloc, question, base, &example.finish),
             Some(example) => self.moved(alloc, question, base, &example.finish, trials),
-            None if base.is_empty() && 0 < trials => self.walked(alloc, question, base, trials),
+            None if base.is_empty() && 0 < trials => {
+                let open = self.played.unplayed().len().min(600) as u16;
+                self.walked(alloc, question, base, season_trials(trials, open))
+            }
             None => Ok(None),
         }
     }
@@ -93,6 +99,49 @@ impl<'a> Hints<'a> {
         }
     }
 
+    // A finish of the season with a score of the base for the base's match, where it is an example.
+    fn looked(
+        &self,
+        alloc: Global,
+        question: &Question,
+        base: &[Literal],
+        from: &Finish,
+    ) -> Result<Option<Example>, OutOfMemory>
+        requires in_range { question.now.club < length self.now.played.now.sheet.clubs }
+        ensures { IfOk result (IsFoundBelow self.now.played.now.sheet self.now.played.now.season
+            question.now base.now) }
+    {
+        let (sheet, season) = (self.played.sheet(), self.played.season());
+        if from.is_of(sheet, season) {
+            let changed = begun(alloc, sheet, from.as_season(), question, base)?;
+            if let Ok(finish) = Finish::of_season(changed) {
+                return self.tried(alloc, question, base, finish);
+            }
+        }
+        Ok(None)
+    }
+
+    // A finish with lots, where that is an example that is a member of the base.
+    fn tried(
+        &self,
+        alloc: Global,
+        question: &Question,
+        base: &[Literal],
+        finish: Finish,
+    ) -> Result<Option<Example>, OutOfMemory>
+        requires in_range { question.now.club < length self.now.played.now.sheet.clubs }
+        ensures { IfOk result (IsFoundBelow self.now.played.now.sheet self.now.played.now.season
+            question.now base.now) }
+    {
+        let (sheet, _season) = (self.played.sheet(), self.played.season());
+        if self.is_member(base, &finish) {
+            if let Some(lots) = try_example(alloc, sheet, question, &finish)? {
+                return Ok(Some(Example { finish, lots }));
+            }
+        }
+        Ok(None)
+    }
+
     // The finish is one of the season, and makes the literals of the base true.
     fn is_member(&self, base: &[Literal], finish: &Finish) -> bool
         ensures { IsTrue result → IsMemberAnyhow self.now.played.now.sheet
@@ -104,7 +153,7 @@ impl<'a> Hints<'a> {
 }
 
 // The trials of a walk after so many units, where there is one: first none, which is to look at
-// where it begins.
+// the example alone.
 fn trials_at(units: u32) -> Option<u32> {
     match units {
         1 => Some(0),

@@ -37,7 +37,7 @@ pub fn next_step<S: Source>(
     ensures reads { ReadsEntry (step_line sheet.now season.now events)
         (contents_to_come reader.old (S.left source.old))
         (contents_to_come reader.new (S.left source.new)) (forgotten_answer result) }
-    ensures told { IfOk result (IsStepAt sheet.now season.now events) }
+    ensures is_step { IfOk result (IsStepAt sheet.now season.now events) }
     ensures step { IsStepThere sheet.now season.now events reader.new.text result }
 
     // Which lines of the input were passed, all but the last without a record, and where the reader

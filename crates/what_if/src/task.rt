@@ -115,7 +115,8 @@ impl Task {
 fn below(alloc: Global, base: &[Literal], way: &[Literal]) -> Result<Vec<Literal>, OutOfMemory>
     ensures { IfOk result (λ zone. zone.items ≡ base.now ++ way.now) }
 {
-    let mut zone = Vec::from_slice(alloc, base)?;
+    let mut zone = Vec::with_capacity(alloc, base.len().saturating_add(way.len()))?;
+    zone.extend_from_slice(base)?;
     zone.extend_from_slice(way)?;
     Ok(zone)
 }

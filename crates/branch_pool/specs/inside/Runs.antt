@@ -3,6 +3,7 @@
 use Rattle.std.specs.Prelude.{◌≡◌, ◌≢◌, ℕ, suc, ◌-◌, IsTrue, Bool, true, false, List, [], ◌∷◌}
 use Rattle.std.specs.Prelude.{sum_by, is_some, if◌then◌else◌}
 use Rattle.league_core.specs.declared.season.Event.{Event}
+use Rattle.league_core.specs.search.Trees.{Tree}
 use Rattle.reason_core.specs.declared.done.Done.{Done}
 use Rattle.reason_core.specs.declared.done.Done.TheVariants.{Refuted, Split, Won, Undone}
 use Rattle.branch_pool.specs.declared.question_state.QuestionState.{QuestionState}
@@ -13,11 +14,11 @@ use Rattle.branch_pool.specs.declared.ticket.Turn.TheVariants as turn
 use Rattle.branch_pool.specs.inside.States.{PoolView, has_work, out_count}
 use Rattle.branch_pool.specs.inside.Calls.{LendsNext}
 use Rattle.branch_pool.specs.inside.Steps.{TakesLeaf, Gives, Keeps, MayBeGiven, Changes}
-use Rattle.branch_pool.specs.inside.Steps.{pool_opened, pool_shut, pool_recalled}
+use Rattle.branch_pool.specs.inside.Steps.{pool_opened, pool_shut, pool_recalled, Adopts}
 
 -- ---- lists of steps
 
--- one step, with what it takes, gives or reports
+-- one step, with what it takes, gives, reports or hands in
 pub data Step : Type 0 where
   take_step : Ticket → Step
   give_step : Ticket → Done → Gave → Step
@@ -25,6 +26,7 @@ pub data Step : Type 0 where
   start_step : Step
   shut_step : Step
   recall_step : Step
+  adopt_step : ℕ → Tree → Step
 
 -- the step leads from a pool to a pool
 abbrev pub MakesStep : PoolView → Step → PoolView → Type 0
@@ -36,6 +38,7 @@ MakesStep old (change_step event) new = Changes old event new
 MakesStep old start_step new = new ≡ pool_opened old
 MakesStep old shut_step new = new ≡ pool_shut old
 MakesStep old recall_step new = new ≡ pool_recalled old
+MakesStep old (adopt_step place tree) new = Adopts old place tree new
 
 -- a step, and the pool after it
 pub record Move : Type 0 where
@@ -61,6 +64,7 @@ LeavesOut number (change_step event) = Unit {0}
 LeavesOut number start_step = Unit {0}
 LeavesOut number shut_step = Unit {0}
 LeavesOut number recall_step = ⊥
+LeavesOut number (adopt_step place tree) = Unit {0}
 
 -- the step takes or gives
 abbrev pub is_work : Step → Bool
@@ -70,6 +74,7 @@ is_work (change_step event) = false
 is_work start_step = false
 is_work shut_step = false
 is_work recall_step = false
+is_work (adopt_step place tree) = false
 
 -- each step takes or gives
 abbrev pub AreAllWork : List Move → Type 0

@@ -17,6 +17,7 @@ use Rattle.reason_core.specs.declared.done.Done.{Done}
 use Rattle.reason_core.specs.declared.finding.Finding.{Finding}
 use Rattle.reason_core.specs.declared.finding.Finding.TheVariants.{Refuted, Split, Won}
 use Rattle.reason_core.specs.inside.Dones.{IsFor, IsTrueDone, finding_of}
+use Rattle.tree_reuse.specs.inside.Asked.{IsAskedTree}
 use Rattle.tree_reuse.specs.inside.Retargets.{retargeted}
 use Rattle.branch_pool.specs.declared.question_state.Example.{Example}
 use Rattle.branch_pool.specs.declared.question_state.QuestionState.{QuestionState}
@@ -25,7 +26,7 @@ use Rattle.branch_pool.specs.declared.ticket.Ticket.{Ticket}
 use Rattle.branch_pool.specs.declared.ticket.Gave.{Gave}
 use Rattle.branch_pool.specs.declared.ticket.Gave.TheVariants.{Kept, Stale}
 use Rattle.branch_pool.specs.inside.States.{PoolView, present_epoch, is_workable, loan_at}
-use Rattle.branch_pool.specs.inside.States.{free_number, with_loan}
+use Rattle.branch_pool.specs.inside.States.{free_number, with_loan, out_count}
 
 -- ---- take
 
@@ -193,6 +194,26 @@ pub record Changes (old : PoolView) (event : Event) (new : PoolView) : Type 0 wh
   pub room : length old.log < most_events
   pub may_be : IsEventOf old.season event
   pub after : new ≡ pool_changed event old
+
+-- ---- adopt
+
+-- a question with what its season leaves of another tree, of which no unit is its own
+abbrev pub seat_adopted : Sheet → Results → Tree → QuestionState → QuestionState
+seat_adopted sheet season tree seat = record seat {
+  tree = retargeted sheet season seat.question tree;
+  units = 0;
+}
+
+-- what the season leaves of a tree takes the place of a question's own, if no number is out;
+-- whoever made the tree, its tests are such as the question's trees may ask
+pub record Adopts (old : PoolView) (place : ℕ) (tree : Tree) (new : PoolView) : Type 0 where
+  pub seat : QuestionState
+  pub found : slice_get old.seats place ≡ Some seat
+  pub home : out_count old.loans ≡ 0
+  pub asked : IsAskedTree old.sheet seat.question tree
+  pub after : new ≡ record old {
+    seats = slice_set old.seats place (seat_adopted old.sheet old.season tree seat);
+  }
 
 -- ---- start, shut, recall
 

@@ -2,7 +2,7 @@
 -- is due leaves the rest to be read from where it stops, whatever else is due; or the reading
 -- stops.
 use Rattle.std.specs.Prelude.{◌≡◌, ◌<◌, ◌≤◌, ℕ, ◌+◌, ◌^◌, Bool, true, false, IsTrue, List, [], ◌∷◌}
-use Rattle.std.specs.Prelude.{◌++◌, ◌*◌, length, take, drop, reverse, Result, Ok, Err, Option, Some}
+use Rattle.std.specs.Prelude.{◌++◌, ◌*◌, length, take, drop, Result, Ok, Err, Option, Some}
 use Rattle.std.specs.Prelude.{None, if◌then◌else◌}
 use Rattle.league_core.specs.declared.tree.TreeNode.{TreeNode}
 use Rattle.league_core.specs.declared.question.Question.{Question}
@@ -10,7 +10,7 @@ use Rattle.league_core.specs.declared.zone.Literal.{Literal}
 use Rattle.league_core.specs.declared.sheet.Sheet.{Sheet}
 use Rattle.league_core.specs.game.Results.{Results}
 use Rattle.league_core.specs.game.Seasons.{IsLeague}
-use Rattle.league_core.specs.search.Zones.{with_test}
+use Rattle.league_core.specs.inside.Pending.{pending_of}
 use Rattle.cert_check.specs.declared.token.Token.{Token}
 use Rattle.cert_check.specs.declared.stop.Accepted.{Accepted}
 use Rattle.cert_check.specs.declared.stop.CheckStop.{CheckStop}
@@ -126,17 +126,6 @@ GoesByWord judged from line club (Ok found) =
 GoesByWord judged from line club (Err stop) = HaltsAt judged from (verdict_row line club) stop
 
 -- ---- trees
-
--- the halves that are still due after the end of a way, its last literal first: one for each yes
--- on it
-abbrev pub to_come : List Literal → List (List Literal)
-to_come [] = []
-to_come (literal ∷ up) =
-    if literal.yes then with_test (reverse up) literal.test false ∷ to_come up else to_come up
-
--- the same for a way from the root on
-abbrev pub pending_of : List Literal → List (List Literal)
-pending_of path = to_come (reverse path)
 
 -- both are places of one season
 pub record IsInSeasonOf (old new : TrailView) : Type 0 where

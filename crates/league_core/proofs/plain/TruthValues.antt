@@ -55,10 +55,6 @@ pub and_agree : (b c d : Bool) → (b ≡ true → c ≡ d) → (b && c) ≡ (b 
 and_agree true c d same = same refl
 and_agree false c d same = refl
 
-pub and_absorbs : (a b c : Bool) → (a && ((a && b) && c)) ≡ ((a && b) && c)
-and_absorbs true b c = refl
-and_absorbs false b c = refl
-
 pub and_comm : (a b : Bool) → (a && b) ≡ (b && a)
 and_comm true true = refl
 and_comm true false = refl

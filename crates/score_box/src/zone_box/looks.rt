@@ -7,7 +7,6 @@ ghost use Rattle.league_core.specs.search.Options.{options_in};
 ghost use Rattle.league_core.specs.search.PointRanges.{least_points_of, most_points_of};
 ghost use Rattle.league_core.specs.game.ClubSets.{clubs_in};
 ghost use Rattle.league_core.specs.game.Sums.{has_club, sum_among, sum_of, points_of};
-ghost use Rattle.league_core.specs.inside.PairSums.{sum_against};
 ghost use Rattle.score_box.specs.inside.Totals.{AreTotals, AreTotalsNear};
 ghost use Rattle.score_box.specs.inside.Boxes.{open_outcomes_in};
 ghost use Rattle.score_box.specs.inside.Points.{most_taken_off, AreOutcomesAmong, AreOutcomesLeft};
@@ -66,18 +65,6 @@ impl<'a> ZoneBox<'a> {
         ensures { result ≡ points_of self.now.sheet self.now.season club }
     {
         self.totals(club).points - i32::from(self.season.deducted(club))
-    }
-
-    /// What a club's played matches against one rival add up to, seen from the club. Clubs count
-    /// from 0.
-    pub fn totals_against(&self, club: u8, rival: u8) -> Totals
-        requires club { club < length self.now.sheet.clubs }
-        requires rival { rival < length self.now.sheet.clubs }
-        ensures sums { AreTotals
-            (λ worth. sum_against worth self.now.sheet self.now.season club rival) result }
-        ensures near { AreTotalsNear 153000 result }
-    {
-        self.tables.of_pair(club, rival)
     }
 
     /// What the played matches of a club add up to within a group of which it is one. Clubs count

@@ -31,7 +31,7 @@ returns-in-Ok-clause-reads g c = λ start leads.
 
 pub returns-in-Ok-clause-state : goal.returns-in-Ok-clause-state
 returns-in-Ok-clause-state g c =
-    let told = rw c.in-Ok-Change.field-0-is at c.in-Ok-Change.ensures.told in
+    let told = rw c.in-Ok-Change.field-0-is at c.in-Ok-Change.ensures.is_entry in
     let P : FeedSoFarView → Type 0 =
     λ s. IsEntryAt s.season s.events true (Change c.in-Ok-Change.event) in
     subst (IsStateOf c.args.sheet.now) (sym c.in-Ok.ensures)

@@ -2,7 +2,8 @@ use Rattle.std.proofs.Common.{◌≡◌, Bool, true, length}
 use Rattle.std.specs.List.{list_all}
 use Rattle.league_core.specs.declared.zone.Literal.{Literal}
 use Rattle.league_core.specs.declared.zone.Test.{Test}
-use Rattle.cert_check.specs.inside.Calls.{IsInSeasonOf, pending_of}
+use Rattle.league_core.specs.inside.Pending.{pending_of}
+use Rattle.cert_check.specs.inside.Calls.{IsInSeasonOf}
 use Rattle.cert_check.proofs.path.next_half.Given as goal
 
 -- what is due is as before, and so is the season; what all tests of the way are, those left are

@@ -1,10 +1,13 @@
-use Rattle.std.proofs.Common.{◌≡◌, ◌&&◌, nat_lt, ap, ◌∙◌, arith}
-use Rattle.league_core.specs.search.SureOrder.{is_below}
-use Rattle.check_bounds.specs.inside.Steps.{sure_at}
+use Rattle.std.proofs.Common.{arith, rules}
+use Rattle.std.proofs.lemmas.List.{get_or_default}
+use Rattle.league_core.specs.declared.sure.Sure.TheVariants.{Above, Unknown}
+use Rattle.league_core.proofs.KeptClubLemmas.{kept_below}
 use Rattle.check_bounds.proofs.rivals.those_below.Goals as goal
 
 pub returns : goal.returns
-returns c = λ x.
-    let all : c.loop-club.club ≡ 32 = omega arith in
-    c.loop-club.invariant x
-    ∙ ap (λ n. nat_lt x n && is_below (sure_at c.args.sure.now x)) all
+returns c =
+    let sure = c.args.sure.now in
+    kept_below 32 c.first.ensures
+    (λ club said low says.
+    let same = get_or_default sure club Above Unknown (omega arith) in search rules)
+    c.keep.ensures

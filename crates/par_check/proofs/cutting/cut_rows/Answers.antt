@@ -11,7 +11,7 @@ returns-in_err-found-clause-cuts c =
     let within : c.loop-row.row < length (rows_of judged.basis.sheet) = omega (
       arith,
       c.loop-row-test.true,
-      c.rows_in_answer-row-end.ensures,
+      c.rows_in_answer-row-end.ensures.value,
       ap (λ (it : Sheet). length (rows_of it)) c.sheet.ensures,
     ) in
     let gone = err_from_is_err_and c.from_residual.result c.from_residual.ensures.1 in
@@ -35,7 +35,7 @@ loop-row-preserved c =
     let within : row < length (rows_of judged.basis.sheet) = omega (
       arith,
       c.loop-row-test.true,
-      c.rows_in_answer-row-end.ensures,
+      c.rows_in_answer-row-end.ensures.value,
       ap (λ (it : Sheet). length (rows_of it)) c.sheet.ensures,
     ) in
     let on = rows_on judged c.args.ask c.args.from row reached.next reached.unsettled

@@ -9,7 +9,7 @@ returns-clause-items c =
     let list = c.args.list.now.items in
     let place = c.place_of-place.result in
     let one = c.args.first + 1 in
-    c.insert.ensures.items
+    c.put_at.ensures.items
     ∙ ap (λ (items : List ℕ). insert items (place + 1) c.args.first) c.replace-leaf.ensures.items
     ∙ ap (λ (at : ℕ). insert (set list place one) at c.args.first) (add-one place)
     ∙ split_once list place c.args.leaf one c.args.first

@@ -4,7 +4,7 @@ use Rattle.tree_reuse.proofs.arena.take_leaf.Goals as goal
 
 pub returns-clause-items : goal.returns-clause-items
 returns-clause-items c =
-    c.remove-leaf.ensures.items
+    c.take_at-leaf.ensures.items
     ∙ removed_once c.args.list.now.items c.place_of-place.result c.args.leaf
     (subst (λ (list : List ℕ). c.place_of-place.result < length list) c.as_slice.ensures
     c.place_of-place.ensures.in_range)

@@ -15,14 +15,14 @@ returns-clause-may_be g c =
     let P : Results → Type 0 = λ season. IfOk c.turn_of.result (IsEventOf season) in
     subst P c.season.ensures.season
     (turn-may_be c.sheet.result.now c.season.result.now _ c.turn_of.result c.next_step.result
-    c.turn_of.ensures c.next_step.ensures.told)
+    c.turn_of.ensures c.next_step.ensures.is_step)
 
 pub returns-clause-room : goal.returns-clause-room
 returns-clause-room g c =
     let P : ℕ → Type 0 = λ events. OnOk c.turn_of.result (events < most_events) in
     subst P (ap length c.log.ensures.log)
     (turn-room c.sheet.result.now c.season.result.now _ c.turn_of.result c.next_step.result
-    c.turn_of.ensures c.next_step.ensures.told)
+    c.turn_of.ensures c.next_step.ensures.is_step)
 
 pub returns-clause-about : goal.returns-clause-about
 returns-clause-about g c =
@@ -37,7 +37,7 @@ returns-clause-unplayed g c =
     λ season. IfErr c.turn_of.result (IsEndUnplayed c.sheet.result.now season) in
     subst P c.sheet.ensures.sheet (subst Q c.season.ensures.season
     (turn-unplayed c.sheet.result.now c.season.result.now _ c.turn_of.result c.next_step.result
-    c.turn_of.ensures c.next_step.ensures.told))
+    c.turn_of.ensures c.next_step.ensures.is_step))
 
 pub returns-clause-next : goal.returns-clause-next
 returns-clause-next g c =

@@ -82,7 +82,7 @@ returns-in-Some-clause-last g c =
     (forgotten_answer c.in-Some.result) c.records.invariant.passes c.records.invariant.takes
     c.records.invariant.last c.in-Some.ensures.last
 
-pub returns-in-Some-clause-told : goal.returns-in-Some-clause-told
-returns-in-Some-clause-told g c =
+pub returns-in-Some-clause-is_step : goal.returns-in-Some-clause-is_step
+returns-in-Some-clause-is_step g c =
     there-may_come c.args.sheet.now c.args.season.now c.args.events c.take_line.new.reader.text
     c.in-Some.result c.requires.of_sheet c.in-Some.ensures.step

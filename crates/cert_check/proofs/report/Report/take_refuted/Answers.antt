@@ -1,7 +1,8 @@
 use Rattle.std.proofs.Common.{◌≡◌, true, false, sym, ◌∙◌, subst, refl}
 use Rattle.league_core.specs.search.Reasons.{has_reason}
 use Rattle.cert_check.specs.ExpectedItems.{is_reason_for}
-use Rattle.cert_check.specs.inside.Calls.{ReportView, pending_of}
+use Rattle.league_core.specs.inside.Pending.{pending_of}
+use Rattle.cert_check.specs.inside.Calls.{ReportView}
 use Rattle.cert_check.proofs.CallLemmas.{reason_unproved}
 use Rattle.cert_check.proofs.report.Report.take_refuted.Goals as goal
 

@@ -17,33 +17,33 @@ find-place-requires-clause-once c =
 pub take_leaf-requires : goal.take_leaf-requires
 take_leaf-requires c = record {
   once = removed_once_lent c.args.number c.args.self.now c.self.inside.nodes c.self.inside.live
-      c.self.inside.lent c.remove-leaf.new.self c.as_slice.result.now c.as_slice-2.result.now
-      c.find-place.result c.remove-leaf.result c.self.invariant.roomy c.self.view_is c.requires
-      c.as_slice.ensures c.as_slice-2.ensures c.find-place.ensures c.remove-leaf.ensures.item
-      c.remove-leaf.ensures.items;
+      c.self.inside.lent c.take_at-leaf.new.list c.as_slice.result.now c.as_slice-2.result.now
+      c.find-place.result c.take_at-leaf.result c.self.invariant.roomy c.self.view_is c.requires
+      c.as_slice.ensures c.as_slice-2.ensures c.find-place.ensures c.take_at-leaf.ensures.item
+      c.take_at-leaf.ensures.items;
 }
 
 step : (c : goal.After-take_leaf)
     → Returns (put c.args.number (refuted_leaf c.args.reason true) c.args.self.now)
-    c.write.new.nodes c.take_leaf.new.list c.remove-leaf.new.self
+    c.write.new.nodes c.take_leaf.new.list c.take_at-leaf.new.list
 step c =
     refutes c.args.number c.args.self.now c.self.inside.nodes c.write.new.nodes
-    c.self.inside.live c.self.inside.lent c.remove-leaf.new.self c.take_leaf.new.list
-    c.as_slice.result.now c.as_slice-2.result.now c.find-place.result c.remove-leaf.result
+    c.self.inside.live c.self.inside.lent c.take_at-leaf.new.list c.take_leaf.new.list
+    c.as_slice.result.now c.as_slice-2.result.now c.find-place.result c.take_at-leaf.result
     c.args.reason true
     c.self.invariant.roomy c.self.view_is c.requires c.as_slice.ensures c.as_slice-2.ensures
-    c.find-place.ensures c.remove-leaf.ensures.item c.remove-leaf.ensures.items
+    c.find-place.ensures c.take_at-leaf.ensures.item c.take_at-leaf.ensures.items
     c.write.ensures.room c.write.ensures.items c.take_leaf.ensures.items c.take_leaf.ensures.room
 
 pub invariant_of-self : goal.invariant_of-self
 invariant_of-self c = record {
   roomy = (step c).roomy;
   leads = leads_back c.args.number c.self.inside.nodes c.write.new.nodes c.self.inside.lent
-      c.remove-leaf.new.self c.as_slice.result.now c.as_slice-2.result.now c.find-place.result
-      c.remove-leaf.result (Refuted c.args.reason true) (reverse c.self.inside.zone_box)
+      c.take_at-leaf.new.list c.as_slice.result.now c.as_slice-2.result.now c.find-place.result
+      c.take_at-leaf.result (Refuted c.args.reason true) (reverse c.self.inside.zone_box)
       c.self.inside.last
-      c.as_slice.ensures c.as_slice-2.ensures c.find-place.ensures c.remove-leaf.ensures.item
-      c.remove-leaf.ensures.items c.write.ensures.items c.self.invariant.leads;
+      c.as_slice.ensures c.as_slice-2.ensures c.find-place.ensures c.take_at-leaf.ensures.item
+      c.take_at-leaf.ensures.items c.write.ensures.items c.self.invariant.leads;
 }
 
 pub returns : goal.returns

@@ -1,0 +1,3 @@
+-- The first nodes of a tree; refuted trees.
+pub mod PrefixLemmas
+pub mod LawLemmas

@@ -1,0 +1,45 @@
+-- Where a round of the feed halts, as its mode reads it, and how it breaks off out of memory.
+use Rattle.std.specs.Prelude.{◌≡◌, ℕ, List, Option, None}
+use Rattle.fixture_sheet.specs.LastReads.{ReadsOnWay}
+use Rattle.result_log.specs.inside.LastReads.{GivesEvents, StopsAtClose}
+use Rattle.result_log.specs.inside.Rounds.{EndsRound, Spot}
+use Rattle.branch_pool.specs.inside.States.{PoolView}
+use Rattle.worker_gate.specs.declared.round.Round.{Round}
+use Rattle.worker_gate.specs.inside.Rounds.{close_of}
+use Rattle.what_if.specs.declared.round.StepRound.{StepRound}
+use Rattle.command_words.specs.declared.command.Mode.{Mode}
+use Rattle.futmax_main.specs.declared.halting.Halt.{Halt}
+use Rattle.futmax_main.specs.inside.Halts.{IsAboutAt, IsAskable, about_at, round_end_of}
+use Rattle.futmax_main.specs.inside.Progress.{line_after}
+use Rattle.futmax_main.specs.inside.Turns.{IsLive}
+
+-- where a round of entries halts: at an ask that is about no fixture, if at an ask
+abbrev pub halt_of : Round → Halt
+halt_of round = record { pool = round.pool; end = round.end; about = None }
+
+-- where a round of steps halts
+abbrev pub halt_of_steps : StepRound → Halt
+halt_of_steps round =
+    record { pool = round.pool; end = round_end_of round.end; about = about_at round.end }
+
+-- a round of the mode, over this pool, from one spot and state of the source to another, halts so:
+-- the pool is live and of the same sheet, the log has grown by what the lines passed report, what
+-- is
+-- asked is about what the last line names, and no more was read than the end takes
+pub record HaltsRound {S : Type 0} (left : S → Option (List ℕ)) (reads : S → List ℕ → S → Type 0)
+    (mode : Mode) (pool : PoolView) (old new : Spot) (before after : S) (halt : Halt) : Type 0 where
+  pub live : IsLive mode halt.pool
+  pub sheet : halt.pool.sheet ≡ pool.sheet
+  pub about : IsAboutAt mode halt.end new.reader.text halt.about
+  pub askable : IsAskable halt.pool halt.about
+  pub ends : EndsRound (line_after mode pool.sheet) pool.log halt.pool.log old new
+      (close_of halt.end)
+  pub last : StopsAtClose left reads (line_after mode pool.sheet) pool.log old.reader new.reader
+      before after (close_of halt.end)
+
+-- it breaks off so: no fault was counted, and reading came on in the round
+pub record StarvesRound {S : Type 0} (left : S → Option (List ℕ)) (reads : S → List ℕ → S → Type 0)
+    (mode : Mode) (pool : PoolView) (old new : Spot) (before after : S) : Type 0 where
+  pub counts : new.faults ≡ old.faults
+  pub last : ReadsOnWay left reads (GivesEvents (line_after mode pool.sheet) pool.log) old.reader
+      new.reader before after

@@ -1,0 +1,100 @@
+//! A round of the feed as the mode reads it: where it halts, and what the ask there is about.
+
+ghost use Rattle.std.specs.Prelude.{◌≡◌, IfOk, OnErr};
+ghost use Rattle.result_log.specs.inside.Rounds.{spot_of};
+ghost use Rattle.futmax_main.specs.inside.Halts.{about_at, round_end_of};
+ghost use Rattle.futmax_main.specs.inside.RoundHalts.{HaltsRound, StarvesRound, halt_of};
+ghost use Rattle.futmax_main.specs.inside.RoundHalts.{halt_of_steps};
+ghost use Rattle.futmax_main.specs.inside.Turns.{IsLive};
+
+use crate::setup::Setup;
+use branch_pool::Pool;
+use command_words::Mode;
+use league_core::{OutOfMemory, Sheet};
+use port_core::{LineReader, Source};
+use std::sync::Wait;
+use std::thread::Threads;
+use what_if::{StepEnd, StepRound, read_steps};
+use worker_gate::{Gate, Round, RoundEnd, read_round, run_round};
+
+/// Where a round of the feed halted, and the fixture that it halted at an ask about, if it did.
+#[derive(Drop)]
+pub struct Halt {
+    pub pool: Pool,
+    pub end: RoundEnd,
+    pub about: Option<u16>,
+}
+
+/// Reads the feed on to the next ask, its end or a stop. In the mode `verdicts` workers work on the
+/// pool meanwhile; in the mode `whatif` an ask may be about a match.
+pub fn next_round<R: Threads + Wait + Sync, S: Source + Send, G: Gate + Sync>(
+    setup: &Setup<'_, R, G>,
+    sheet: &Sheet,
+    pool: Pool,
+    reader: &mut LineReader,
+    source: &mut S,
+) -> Result<Halt, OutOfMemory>
+    requires live { IsLive setup.now.mode pool }
+    requires of_pool { sheet.now ≡ pool.sheet }
+    ensures ok { IfOk result (HaltsRound S.left S.reads setup.now.mode pool
+        (spot_of reader.old (S.left source.old) (S.ended source.old) (S.faults source.old))
+        (spot_of reader.new (S.left source.new) (S.ended source.new) (S.faults source.new))
+        source.old source.new) }
+    ensures err { OnErr result (StarvesRound S.left S.reads setup.now.mode pool
+        (spot_of reader.old (S.left source.old) (S.ended source.old) (S.faults source.old))
+        (spot_of reader.new (S.left source.new) (S.ended source.new) (S.faults source.new))
+        source.old source.new) }
+{
+    let alloc = setup.alloc;
+    match setup.mode {
+        Mode::Verdicts { .. } => {
+            let (workers, gate) = (setup.workers, setup.gate);
+            let round = run_round(setup.rt, alloc, sheet, pool, reader, source, workers, gate)?;
+            Ok(halt_of(round))
+        }
+        Mode::WhatIf => Ok(halt_of_steps(read_steps(alloc, pool, reader, source)?)),
+        Mode::Table | Mode::Scores | Mode::Check | Mode::Sample { .. } => {
+            Ok(halt_of(read_round(alloc, pool, reader, source)?))
+        }
+    }
+}
+
+// A round of entries is about no match.
+fn halt_of(round: Round) -> Halt
+    ensures { result ≡ halt_of round }
+{
+    let Round { pool, end } = round;
+    let about = None;
+    Halt { pool, end, about }
+}
+
+// A round of steps halts at what its last step asks about.
+fn halt_of_steps(round: StepRound) -> Halt
+    ensures { result ≡ halt_of_steps round }
+{
+    let StepRound { pool, end } = round;
+    let about = about_at(end);
+    let end = round_end_of(end);
+    Halt { pool, end, about }
+}
+
+// A round that ended on a `when` ended on an ask.
+fn round_end_of(end: StepEnd) -> RoundEnd
+    ensures { result ≡ round_end_of end }
+{
+    match end {
+        StepEnd::Ask | StepEnd::When(_) => RoundEnd::Ask,
+        StepEnd::End => RoundEnd::End,
+        StepEnd::Stop(stop) => RoundEnd::Stop(stop),
+    }
+}
+
+// The fixture of that `when`.
+fn about_at(end: StepEnd) -> Option<u16>
+    ensures { result ≡ about_at end }
+{
+    match end {
+        StepEnd::When(fixture) => Some(fixture),
+        StepEnd::Ask | StepEnd::End | StepEnd::Stop(_) => None,
+    }
+}

@@ -1,0 +1,8 @@
+use Rattle.par_check.proofs.PlaceLemmas.{reads_none}
+use Rattle.par_check.proofs.side_by_side.joined.Goals as goal
+
+pub loop-at-init : goal.loop-at-init
+loop-at-init c = record {
+  reads = reads_none c.args.whole.now.sheet.now c.args.whole.now.asks.now c.args.whole.now.lines.now
+      c.args.from c.requires.from;
+}
