@@ -12,6 +12,7 @@ import importlib.util
 import os
 import sys
 import traceback
+from typing import Callable
 
 from . import common
 
@@ -97,9 +98,17 @@ def read_words(given: list[str]) -> argparse.Namespace:
 
 def main(words: list[str] | None = None) -> int:
     """Runs the command with these words, or with those of the process, and gives its status."""
-    try:
+    def run() -> int:
         arguments = read_words(sys.argv[1:] if words is None else words)
-        status = arguments.run(arguments)
+        return arguments.run(arguments)
+
+    return status_of(run)
+
+
+def status_of(run: Callable[[], int]) -> int:
+    """The status of what is run; if it ends with a fault, that is said, and has its own status."""
+    try:
+        status = run()
         if sys.stdout is not None:
             sys.stdout.flush()
         return status

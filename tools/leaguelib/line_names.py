@@ -83,7 +83,8 @@ def _comments(data: bytes, has_clubs: bool = False) -> list[tuple[int, str]]:
             if raw.startswith(b"#"):
                 found.append((number, raw.decode("utf-8", "replace")))
                 continue
-            record = record_of(number, raw)
+            # a line that begins otherwise is a match, or another record that is not looked for
+            record = record_of(number, raw) if raw[:1] in b'cs"\xef' else None
             kind = record.kind if record else ""
             if kind == "season":
                 break

@@ -8,11 +8,14 @@
 from __future__ import annotations
 
 from dataclasses import replace
+from typing import TYPE_CHECKING
 
-from .answers import Answer, Report
 from .line_names import comment_lines
 from .records import lines_of, record_of
 from .texts import MOST_LINES
+
+if TYPE_CHECKING:
+    from .answers import Answer, Report
 
 
 def line_runs(lines: list[int], most: int = MOST_LINES) -> list[list[int]]:

@@ -9,7 +9,6 @@ from __future__ import annotations
 import argparse
 import hashlib
 import os
-import sys
 import tempfile
 from pathlib import Path
 from typing import Iterable, Iterator
@@ -137,7 +136,8 @@ def _waiting(tasks: list[Task], settings: Settings, journal: Journal) -> list[Ta
 def _answer(waiting: list[Task], settings: Settings, journal: Journal,
             arguments: argparse.Namespace) -> None:
     """Has the leagues answered, here or by an engine."""
-    with Progress("leagues", len(waiting), arguments.progress) as progress:
+    with Progress("leagues", len(waiting), arguments.progress,
+                  tells_itself=bool(arguments.by)) as progress:
         def take(part: Part) -> None:
             journal.put(part)
             progress.step()
@@ -148,7 +148,7 @@ def _answer(waiting: list[Task], settings: Settings, journal: Journal,
                    arguments.batch).run(arguments.by, tasks)
             return
         jobs = min(arguments.jobs or len(os.sched_getaffinity(0)), max(len(waiting), 1))
-        run_local(waiting, settings, jobs, [sys.executable, sys.argv[0], "many", "--worker"], take)
+        run_local(waiting, settings, jobs, take, progress.tell, journal.leave)
 
 
 def _parts(tasks: Iterable[Task], journal: Journal) -> Iterator[Part]:

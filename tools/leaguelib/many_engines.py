@@ -7,11 +7,11 @@ that comes twice is taken once.
 from __future__ import annotations
 
 import json
+import os
 import shlex
 import shutil
 import subprocess
 import time
-import uuid
 from dataclasses import dataclass
 
 from . import common
@@ -84,7 +84,7 @@ def run_parallel(engine: Engine, waiting: dict[str, Task]) -> None:
     for host in engine.hosts:
         command += ["--sshlogin", host]
     if engine.hosts:
-        folder = f"/tmp/futmax-{uuid.uuid4().hex[:12]}"
+        folder = f"/tmp/futmax-{os.urandom(6).hex()}"
         command += ["--workdir", folder, "--basefile", SHIPPED, "--transferfile", "{}", "--cleanup"]
     command += [*engine.words, f"python3 {SHIPPED} many --worker <{{}}"]
     lines = (engine.line(task, has_files=True) for task in list(waiting.values()))
@@ -144,7 +144,7 @@ def run_dask(engine: Engine, waiting: dict[str, Task]) -> None:
                              common.NO_PROGRAM) from fault
     with client:
         client.register_worker_plugin(UploadFile(str(engine.journal.folder / SHIPPED)),
-                                      name=f"futmax-{uuid.uuid4().hex}")
+                                      name=f"futmax-{os.urandom(16).hex()}")
         left = iter(list(waiting.values()))
         room = 4 * max(1, sum(client.nthreads().values()))
 

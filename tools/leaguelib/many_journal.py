@@ -43,6 +43,10 @@ class Journal:
             path.unlink()
         self._drop_tasks()
 
+    def leave(self) -> None:
+        """Closes the lock in a process that was forked, so that it ends with this run alone."""
+        self._lock.close()
+
     def path_of(self, league: str) -> Path:
         """Where the part of a league is kept."""
         name = hashlib.sha256(league.encode("utf-8", "surrogateescape")).hexdigest()[:32]
@@ -56,7 +60,7 @@ class Journal:
         try:
             handle, path = tempfile.mkstemp(prefix=".new-", dir=self.parts)
             with open(handle, "w", encoding="ascii") as file:
-                json.dump(part.as_object(), file)
+                file.write(json.dumps(part.as_object()))
             os.replace(path, self.path_of(part.league))
         except OSError as fault:
             raise self._trouble(fault) from fault

@@ -8,14 +8,14 @@ those alone that are another word than at the moment before.
 
 from __future__ import annotations
 
+import fcntl
 import hashlib
-import mmap
-import os
 import re
 import subprocess
 import tempfile
+import time
 from dataclasses import dataclass, field
-from typing import Iterator
+from typing import BinaryIO, Iterator
 
 from . import common
 from .feeds import Input, InputReader
@@ -25,11 +25,13 @@ from .lines import line_runs, with_lines_of
 from .many_asks import DAYS, asked_feed, front_of, moments_of
 from .many_list import Task, plain
 from .records import Refused, count_lines, fields_of, records_of
-from .running import ENDINGS
 from .words import words_for
 
 ROW = re.compile(rb"\n([avfu][^\n]*)")
 FORM = 1
+SET_PIPE_BYTES = 1031  # Linux; F_SETPIPE_SZ in Python from 3.10 on
+PIPE_BYTES = 1 << 20
+LEAST_PAUSE, MOST_PAUSE = 0.0003, 0.002
 
 
 @dataclass(frozen=True)
@@ -163,40 +165,55 @@ def _changes(program: str, data: bytes) -> Iterator[list[tuple[int, str, str]]]:
         yield found
 
 
-def rows_in(text: mmap.mmap) -> Iterator[bytes]:
-    """The complete rows of a text, without the finishes between them."""
-    end = text.rfind(b"\n")
-    if end >= 0:
-        yield text[:text.find(b"\n")]
-        for found in ROW.finditer(text, 0, end):
-            yield found[1]
+def _reads(pipe: BinaryIO) -> Iterator[bytes]:
+    """What comes out of a pipe, with pauses and much room in it, so that it comes in few parts."""
+    try:
+        fcntl.fcntl(pipe, SET_PIPE_BYTES, PIPE_BYTES)
+    except OSError:
+        pass  # with the usual room of a pipe the program waits more often
+    pause = LEAST_PAUSE
+    while True:
+        time.sleep(pause)
+        read = pipe.read(PIPE_BYTES)
+        if not read:
+            return
+        yield read
+        pause = min(2 * pause, MOST_PAUSE)
 
 
 def rows_of(program: str, data: bytes) -> Iterator[bytes]:
     """The rows of a run with one worker, without finishes; raises `Trouble` if it ends badly.
 
-    What the program writes goes to a file that has no name: the program never waits for its reader,
-    and the file is looked through where it lies, however long an answer is.
+    The program writes each row by itself, and most are finishes: a reader that wakes for each takes
+    as long as the program, and a file takes longer to write than a pipe. So what is there is read
+    after pauses. However long an answer is, little of it is kept.
     """
     last, is_whole = b"", False
-    with tempfile.TemporaryFile() as sink:
+    with tempfile.TemporaryFile() as source:
+        source.write(data)
+        source.seek(0)
         try:
-            run = subprocess.run([program, "verdicts", "--workers", "1"], input=data,
-                                 stdout=sink, check=False)
+            run = subprocess.Popen([program, "verdicts", "--workers", "1"], stdin=source,
+                                   stdout=subprocess.PIPE, bufsize=0, close_fds=False)
         except (OSError, ValueError) as fault:
             reason = getattr(fault, "strerror", None) or str(fault)
             raise common.Trouble(f"{program} cannot be run: {reason}",
                                  common.NO_PROGRAM) from fault
-        if sink.seek(0, os.SEEK_END):
-            with mmap.mmap(sink.fileno(), 0, access=mmap.ACCESS_READ) as text:
-                is_whole = text[-1:] == b"\n"
-                for last in rows_in(text):
-                    yield last
+    with run:
+        rest = b"\n"
+        for read in _reads(run.stdout):
+            text = rest + read
+            end = text.rfind(b"\n")
+            for found in ROW.finditer(text, 0, end):
+                last = found[1]
+                yield last
+            rest, is_whole = text[end:], read.endswith(b"\n")
     if run.returncode == 0 and is_whole:
         return
     if last.startswith(b"fault,"):
         raise common.Trouble(f"futmax ended with `{last.decode('utf-8', 'replace')}`, and these "
                              "tools see no fault: it may be an older program.", common.NO_PROGRAM)
+    from .running import ENDINGS  # pylint: disable=import-outside-toplevel
     reason = ENDINGS.get(run.returncode, "it may have been stopped from outside")
     raise common.Trouble(f"futmax ended with status {run.returncode}: {reason}.",
                          common.NO_PROGRAM)

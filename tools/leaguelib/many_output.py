@@ -5,11 +5,13 @@ from __future__ import annotations
 import csv
 import io
 import json
-import sqlite3
-from typing import Iterable, Iterator
+from typing import TYPE_CHECKING, Iterable, Iterator
 
 from . import common
 from .many_league import Part
+
+if TYPE_CHECKING:
+    import sqlite3
 
 HEADS = ("date", "league", "line", "club", "word")
 TABLES = """
@@ -43,6 +45,7 @@ def json_texts(parts: Iterable[Part]) -> Iterator[str]:
 
 def write_database(parts: Iterable[Part], path: str) -> None:
     """Puts the leagues into a database in one go: what it had of these leagues is replaced."""
+    import sqlite3  # pylint: disable=import-outside-toplevel,redefined-outer-name
     try:
         base = sqlite3.connect(path)
         try:
