@@ -1,5 +1,5 @@
 -- The outcome of the first option, by the outcomes that the options have.
-use Rattle.std.proofs.Common.{◌≡◌, ◌≢◌, inl, inr, ◌+ℤ◌, ◌≤ℤ◌, ℤ, pos, neg_ℤ, ◌+◌, Bool, true, false}
+use Rattle.std.proofs.Common.{◌≡◌, ◌≢◌, inl, inr, ◌≤ℤ◌, ℤ, pos, neg_ℤ, ◌+◌, Bool, true, false}
 use Rattle.std.proofs.Common.{◌||◌, List, [], ◌∷◌, Some, Ordering, Less, Equal, Greater, refl, sym}
 use Rattle.std.proofs.Common.{ap, ◌∙◌}
 use Rattle.std.proofs.Common.{arith}
@@ -12,7 +12,7 @@ use Rattle.league_core.specs.game.Sums.{match_points, goal_difference}
 use Rattle.league_core.specs.game.HeadToHead.{greater_first, by_first_difference}
 use Rattle.league_core.specs.game.Finishes.{same_score}
 use Rattle.league_core.specs.search.Options.{has_score, is_home_win, is_draw, is_away_win}
-use Rattle.league_core.specs.search.Proposals.{weighed, weighed_together, first_option}
+use Rattle.league_core.specs.search.Proposals.{weighed_together, first_option}
 use Rattle.league_core.proofs.OutcomeLemmas.{outcome_cases}
 use Rattle.league_core.proofs.OptionLemmas.{same_score-true}
 use Rattle.league_core.proofs.ProposalLemmas.{first_option_is}
@@ -61,54 +61,31 @@ first_meets : (home away : Bool) (options : List Score) (score other : Score)
     → weighed_together match_points home away other
     ≤ℤ weighed_together match_points home away score
 first_meets home away options score other is has =
-    no_more (weighed_together match_points home away other)
-    (weighed_together match_points home away score)
+    no_more _ _
     (weighed_together goal_difference home away other
     ∷ neg_ℤ (pos (other.home + other.away)) ∷ pos other.home ∷ [])
     (weighed_together goal_difference home away score
     ∷ neg_ℤ (pos (score.home + score.away)) ∷ pos score.home ∷ [])
     ((first_option_is home away options score is).first other has)
 
-is_option : (home away : Bool) (options : List Score) (score : Score)
-    → first_option home away options ≡ Some score → has_score options score ≡ true
-is_option home away options score is = (first_option_is home away options score is).option
-
 -- an outcome that no option has is not that of the first
 not_taken : (test : Score → Bool) (home away : Bool) (options : List Score) (score : Score)
     → list_any test options ≡ false → first_option home away options ≡ Some score
     → test score ≢ true
 not_taken test home away options score none is =
-    none_passes test options score none (is_option home away options score is)
+    none_passes test options score none (first_option_is home away options score is).option
 
--- a home win is taken if it brings the most points
-home_win_brings : (home away : Bool) (options : List Score) (score : Score)
-    → list_any is_home_win options ≡ true → first_option home away options ≡ Some score
-    → (weighed home (pos 3) +ℤ weighed away (pos 0))
-    ≤ℤ weighed_together match_points home away score
-home_win_brings home away options score some is =
-    let found = any_gives is_home_win options some in
+-- the first option brings no fewer points than an outcome that some option has
+brings : (home away : Bool) (options : List Score) (score : Score) (test : Score → Bool)
+    (points : ℤ)
+    → ((other : Score) → test other ≡ true
+    → weighed_together match_points home away other ≡ points)
+    → list_any test options ≡ true → first_option home away options ≡ Some score
+    → points ≤ℤ weighed_together match_points home away score
+brings home away options score test points points_of some is =
+    let found = any_gives test options some in
     let meets = first_meets home away options score found.0 is found.1 in
-    let theirs = home_win_points home away found.0 found.2 in
-    omega (arith, ints, meets, theirs)
-
-draw_brings : (home away : Bool) (options : List Score) (score : Score)
-    → list_any is_draw options ≡ true → first_option home away options ≡ Some score
-    → (weighed home (pos 1) +ℤ weighed away (pos 1))
-    ≤ℤ weighed_together match_points home away score
-draw_brings home away options score some is =
-    let found = any_gives is_draw options some in
-    let meets = first_meets home away options score found.0 is found.1 in
-    let theirs = draw_points home away found.0 found.2 in
-    omega (arith, ints, meets, theirs)
-
-away_win_brings : (home away : Bool) (options : List Score) (score : Score)
-    → list_any is_away_win options ≡ true → first_option home away options ≡ Some score
-    → (weighed home (pos 0) +ℤ weighed away (pos 3))
-    ≤ℤ weighed_together match_points home away score
-away_win_brings home away options score some is =
-    let found = any_gives is_away_win options some in
-    let meets = first_meets home away options score found.0 is found.1 in
-    let theirs = away_win_points home away found.0 found.2 in
+    let theirs = points_of found.0 found.2 in
     omega (arith, ints, meets, theirs)
 
 -- the home side alone is wished points
@@ -116,45 +93,39 @@ pub home_first-home_win : (options : List Score) (score : Score)
     → list_any is_home_win options ≡ true → first_option true false options ≡ Some score
     → is_home_win score ≡ true
 home_first-home_win options score some is =
-    let most = home_win_brings true false options score some is in
+    let most = brings true false options score is_home_win _ (home_win_points true false) some is in
     outcome_cases score (λ wins. wins)
-    (λ draws. absurd (let mine = draw_points true false score draws in
-    omega (arith, ints, most, mine)))
-    (λ loses. absurd (let mine = away_win_points true false score loses in
-    omega (arith, ints, most, mine)))
+    (λ draws. absurd (omega (arith, ints, most, draw_points true false score draws)))
+    (λ loses. absurd (omega (arith, ints, most, away_win_points true false score loses)))
 
 pub home_first-draw : (options : List Score) (score : Score)
     → list_any is_home_win options ≡ false → list_any is_draw options ≡ true
     → first_option true false options ≡ Some score → is_draw score ≡ true
 home_first-draw options score none some is =
-    let most = draw_brings true false options score some is in
+    let most = brings true false options score is_draw _ (draw_points true false) some is in
     outcome_cases score
     (λ wins. absurd (not_taken is_home_win true false options score none is wins))
     (λ draws. draws)
-    (λ loses. absurd (let mine = away_win_points true false score loses in
-    omega (arith, ints, most, mine)))
+    (λ loses. absurd (omega (arith, ints, most, away_win_points true false score loses)))
 
 -- the away side alone is
 pub away_first-away_win : (options : List Score) (score : Score)
     → list_any is_away_win options ≡ true → first_option false true options ≡ Some score
     → is_away_win score ≡ true
 away_first-away_win options score some is =
-    let most = away_win_brings false true options score some is in
+    let most = brings false true options score is_away_win _ (away_win_points false true) some is in
     outcome_cases score
-    (λ wins. absurd (let mine = home_win_points false true score wins in
-    omega (arith, ints, most, mine)))
-    (λ draws. absurd (let mine = draw_points false true score draws in
-    omega (arith, ints, most, mine)))
+    (λ wins. absurd (omega (arith, ints, most, home_win_points false true score wins)))
+    (λ draws. absurd (omega (arith, ints, most, draw_points false true score draws)))
     (λ loses. loses)
 
 pub away_first-draw : (options : List Score) (score : Score)
     → list_any is_away_win options ≡ false → list_any is_draw options ≡ true
     → first_option false true options ≡ Some score → is_draw score ≡ true
 away_first-draw options score none some is =
-    let most = draw_brings false true options score some is in
+    let most = brings false true options score is_draw _ (draw_points false true) some is in
     outcome_cases score
-    (λ wins. absurd (let mine = home_win_points false true score wins in
-    omega (arith, ints, most, mine)))
+    (λ wins. absurd (omega (arith, ints, most, home_win_points false true score wins)))
     (λ draws. draws)
     (λ loses. absurd (not_taken is_away_win false true options score none is loses))
 
@@ -163,34 +134,30 @@ pub draw_first-draw : (options : List Score) (score : Score)
     → list_any is_draw options ≡ true → first_option false false options ≡ Some score
     → is_draw score ≡ true
 draw_first-draw options score some is =
-    let most = draw_brings false false options score some is in
+    let most = brings false false options score is_draw _ (draw_points false false) some is in
     outcome_cases score
-    (λ wins. absurd (let mine = home_win_points false false score wins in
-    omega (arith, ints, most, mine)))
+    (λ wins. absurd (omega (arith, ints, most, home_win_points false false score wins)))
     (λ draws. draws)
-    (λ loses. absurd (let mine = away_win_points false false score loses in
-    omega (arith, ints, most, mine)))
+    (λ loses. absurd (omega (arith, ints, most, away_win_points false false score loses)))
 
 -- both are: a draw is not taken if there is a win
 pub win_first-home_win : (options : List Score) (score : Score)
     → list_any is_home_win options ≡ true → list_any is_away_win options ≡ false
     → first_option true true options ≡ Some score → is_home_win score ≡ true
 win_first-home_win options score some none is =
-    let most = home_win_brings true true options score some is in
+    let most = brings true true options score is_home_win _ (home_win_points true true) some is in
     outcome_cases score (λ wins. wins)
-    (λ draws. absurd (let mine = draw_points true true score draws in
-    omega (arith, ints, most, mine)))
+    (λ draws. absurd (omega (arith, ints, most, draw_points true true score draws)))
     (λ loses. absurd (not_taken is_away_win true true options score none is loses))
 
 pub win_first-away_win : (options : List Score) (score : Score)
     → list_any is_home_win options ≡ false → list_any is_away_win options ≡ true
     → first_option true true options ≡ Some score → is_away_win score ≡ true
 win_first-away_win options score none some is =
-    let most = away_win_brings true true options score some is in
+    let most = brings true true options score is_away_win _ (away_win_points true true) some is in
     outcome_cases score
     (λ wins. absurd (not_taken is_home_win true true options score none is wins))
-    (λ draws. absurd (let mine = draw_points true true score draws in
-    omega (arith, ints, most, mine)))
+    (λ draws. absurd (omega (arith, ints, most, draw_points true true score draws)))
     (λ loses. loses)
 
 -- if two outcomes are not left the first option has the third

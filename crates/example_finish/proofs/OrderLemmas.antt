@@ -1,9 +1,9 @@
 -- When one score is not taken before another, by the four parts of the wishes that it meets.
-use Rattle.std.proofs.Common.{◌≡◌, ◌≢◌, ◌⊎◌, inl, inr, ◌+◌, ◌<◌, ℤ, pos, neg_ℤ, ◌+ℤ◌, ◌<ℤ◌, Bool}
+use Rattle.std.proofs.Common.{◌≡◌, ◌≢◌, ◌⊎◌, inl, inr, ◌<◌, ℤ, pos, ◌+ℤ◌, ◌<ℤ◌, Bool}
 use Rattle.std.proofs.Common.{true, List, [], ◌∷◌, Less, refl, arith}
-use Rattle.std.proofs.lemmas.Bool.{lt-ltb, le-ltb, eq-eqb, ne_eqb, ltb-true, eqb-true}
+use Rattle.std.proofs.lemmas.Bool.{le-ltb, eq-eqb, ne_eqb, ltb-true, eqb-true}
 use Rattle.league_core.specs.declared.season.Score.{Score}
-use Rattle.league_core.specs.game.Sums.{match_points, goal_difference}
+use Rattle.league_core.specs.game.Sums.{match_points}
 use Rattle.league_core.specs.game.HeadToHead.{greater_first, by_first_difference}
 use Rattle.league_core.specs.search.Options.{is_home_win, is_draw, is_away_win}
 use Rattle.league_core.specs.search.Proposals.{weighed, weighed_together, wishes_met, option_order}
@@ -42,13 +42,7 @@ pub not_before : (home away : Bool) (score other : Score)
     → IsNoGreater (wishes_met home away other) (wishes_met home away score)
     → option_order home away other score ≢ Less
 not_before home away score other is =
-    by_first_difference-no_greater
-    (weighed_together match_points home away other)
-    (weighed_together goal_difference home away other)
-    (neg_ℤ (pos (other.home + other.away))) (pos other.home)
-    (weighed_together match_points home away score)
-    (weighed_together goal_difference home away score)
-    (neg_ℤ (pos (score.home + score.away))) (pos score.home) is
+    by_first_difference-no_greater _ _ _ _ _ _ _ _ is
 
 -- the points of an outcome
 pub home_win_points : (home away : Bool) (score : Score) → is_home_win score ≡ true
@@ -57,10 +51,9 @@ pub home_win_points : (home away : Bool) (score : Score) → is_home_win score �
 home_win_points home away score wins =
     let more : score.away < score.home = ltb-true score.away score.home wins in
     rw (
-      lt-ltb score.away score.home more,
+      wins,
       le-ltb score.home score.away (omega arith),
-      ne_eqb
-          score.away score.home (λ e. absurd (omega arith)),
+      ne_eqb score.away score.home (λ e. absurd (omega arith)),
     ) refl
 
 pub draw_points : (home away : Bool) (score : Score) → is_draw score ≡ true
@@ -82,7 +75,6 @@ away_win_points home away score wins =
     let more : score.home < score.away = ltb-true score.home score.away wins in
     rw (
       le-ltb score.away score.home (omega arith),
-      lt-ltb score.home score.away more,
-      ne_eqb
-          score.home score.away (λ e. absurd (omega arith)),
+      wins,
+      ne_eqb score.home score.away (λ e. absurd (omega arith)),
     ) refl

@@ -47,20 +47,14 @@ two_sides match score club apart old middle new home away home_is away_is first 
         first ∙ ap (λ b. old +ℤ cond b home (pos 0)) (eq-eqb match.home club same) in
         let two : new ≡ middle +ℤ pos 0 =
         second ∙ ap (λ b. middle +ℤ cond b away (pos 0)) (ne_eqb match.away club not_away) in
-        let all : new ≡ old +ℤ home = omega (arith, ints, one, two) in
-        all ∙ ap (λ p. old +ℤ p) home_is
-        ∙ sym (ap (λ b. old +ℤ cond b (match_points score.home score.away false)
-        (cond (eqb match.away club) (match_points score.away score.home false) (pos 0)))
-        (eq-eqb match.home club same))
+        rw (eq-eqb match.home club same) (omega (arith, ints, one, two, home_is))
     by_side (inr other) =
         let one : middle ≡ old +ℤ pos 0 =
         first ∙ ap (λ b. old +ℤ cond b home (pos 0)) (ne_eqb match.home club other) in
-        let all : new ≡ old +ℤ cond (eqb match.away club) away (pos 0) =
-        omega (arith, ints, one, second) in
-        all ∙ ap (λ p. old +ℤ cond (eqb match.away club) p (pos 0)) away_is
-        ∙ sym (ap (λ b. old +ℤ cond b (match_points score.home score.away false)
-        (cond (eqb match.away club) (match_points score.away score.home false) (pos 0)))
-        (ne_eqb match.home club other))
+        let two : new ≡ middle +ℤ cond (eqb match.away club)
+        (match_points score.away score.home false) (pos 0) =
+        second ∙ ap (λ p. middle +ℤ cond (eqb match.away club) p (pos 0)) away_is in
+        rw (ne_eqb match.home club other) (omega (arith, ints, one, two))
 
 -- what a match that is taken is worth
 pub taken_worth : (asked : ProposedView) (club k : ℕ) (sides : Fixture) (score : Score)

@@ -1,7 +1,7 @@
 -- What the matches of the proposed finish add up to: what was played, and what is proposed for the
 -- matches that are not.
 use Rattle.std.proofs.Common.{◌≡◌, ℕ, zero, suc, ◌+◌, ◌*◌, ◌<◌, ◌≤◌, ℤ, pos, ◌+ℤ◌}
-use Rattle.std.proofs.Common.{◌&&◌, ◌==◌, Bool, true}
+use Rattle.std.proofs.Common.{Bool, true}
 use Rattle.std.proofs.Common.{false, List, [], ◌∷◌, length, get_or, take, Option}
 use Rattle.std.proofs.Common.{None, inl, inr, refl, sym, ap, ◌∙◌, subst, arith}
 use Rattle.std.proofs.lemmas.Bool.{true≢false, cases_Bool}
