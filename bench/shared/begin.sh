@@ -15,8 +15,8 @@ trap 'rm -rf "$work"' EXIT
 export PYTHONPATH=$home/bench/shared:$home/tools PYTHONDONTWRITEBYTECODE=1
 # all that a pool of questions and its search stand on
 search=(league_core port_core tie_criteria final_rank fixture_sheet result_log sample_leagues
-    flow_net score_box reason_laws flow_bound tie_bound reason_core tree_reuse example_finish
-    local_search branch_rules branch_pool cert_text verdict_run)
+    flow_net score_box reason_laws flow_bound tie_bound reason_core tree_arena tree_reuse
+    example_finish local_search branch_rules branch_pool cert_text verdict_run)
 
 # puts the whole program into `program`: that of FUTMAX, or of this repository
 take_whole_program() {

@@ -8,7 +8,8 @@ ghost use Rattle.branch_pool.specs.inside.Steps.{Adopts};
 
 use crate::pool::Pool;
 use league_core::OutOfMemory;
-use tree_reuse::{Tree, retarget};
+use tree_arena::Tree;
+use tree_reuse::retarget;
 
 impl Pool {
     /// The question at a place, from 0, goes on from what the season leaves of a tree, whoever made

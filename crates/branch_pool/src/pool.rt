@@ -20,7 +20,7 @@ use crate::ticket::Answer;
 use league_core::{Event, Finish, Lots, OutOfMemory, Question, RoomyList, Season, Sheet};
 use std::alloc::Global;
 use std::marker::Model;
-use tree_reuse::Tree;
+use tree_arena::Tree;
 
 /// Questions about a season while it is played, each with a tree that is worked on leaf by leaf.
 ///

@@ -5,7 +5,7 @@ ghost use Rattle.std.specs.Prelude.{if◌then◌else◌};
 ghost use Rattle.league_core.specs.game.Seasons.{IsLeague};
 ghost use Rattle.league_core.specs.search.Trees.{open_leaf, has_open, node_count};
 ghost use Rattle.league_core.specs.inside.Lending.{times_lent, lent_count, lent_zones, put};
-ghost use Rattle.tree_reuse.specs.inside.Calls.{most_nodes};
+ghost use Rattle.tree_arena.specs.inside.Calls.{most_nodes};
 ghost use Rattle.tree_reuse.specs.inside.Retargets.{retargeted};
 ghost use Rattle.branch_pool.specs.inside.States.{new_seat, is_workable};
 ghost use Rattle.branch_pool.specs.inside.Steps.{seat_after, seat_recalled, seat_changed};
@@ -20,7 +20,7 @@ use crate::ticket::Answer;
 use league_core::{Finish, Lots, OutOfMemory, Question, Season, Sheet, Zone};
 use reason_core::{Finding, Solver};
 use std::alloc::Global;
-use tree_reuse::Tree;
+use tree_arena::Tree;
 
 /// A pool has at most so many questions.
 pub const MOST_QUESTIONS: u32 = 65_536;

@@ -11,7 +11,8 @@ use crate::question_state::QuestionState;
 use league_core::{OutOfMemory, Question, Season, Sheet};
 use score_box::{Played, ZoneBox};
 use std::alloc::Global;
-use tree_reuse::{Tree, retarget_by};
+use tree_arena::Tree;
+use tree_reuse::retarget_by;
 
 pub fn new_seats(alloc: Global, questions: &[Question]) -> Result<Vec<QuestionState>, OutOfMemory>
     ensures { IfOk result (λ seats. seats.items ≡ map new_seat questions.now) }

@@ -1,9 +1,12 @@
--- Small facts on lists and rows, and lines kept as bytes and ends; then what each line that may
--- come makes of what is due and back, then whole reports. After these inputs: how a reading of a
--- sheet and of an entry goes on whatever follows it, feeds entry by entry, what comes after them,
--- and reports part by part; then the text of a proof line, of a row, and of an answer.
+-- Small facts on lists and rows, and lines kept in blocks; then what each line that may come makes
+-- of what is due and back, then whole reports. After these inputs: how a reading of a sheet and of
+-- an entry goes on whatever follows it, feeds entry by entry, what comes after them, and reports
+-- part by part; then the text of a proof line, of a row, and of an answer.
 pub mod ListLemmas
-pub mod LineEndLemmas
+pub mod LineHeadLemmas
+pub mod LinePlaceLemmas
+pub mod LineBlockLemmas
+pub mod LineListLemmas
 pub mod NextLemmas
 pub mod RowLemmas
 pub mod NodeLemmas

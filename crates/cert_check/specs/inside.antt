@@ -1,6 +1,7 @@
 -- What the functions promise each other and the crates above: no promise of the program rests on
 -- these words. Read in this order.
-pub mod LineEnds
+pub mod LineHeads
+pub mod LineBlocks
 pub mod Grammar
 pub mod Laws
 pub mod Truths

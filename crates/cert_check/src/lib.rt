@@ -17,6 +17,8 @@ mod feed;
 mod input_laws;
 mod item;
 mod laws;
+mod line_block;
+mod line_head;
 mod line_list;
 mod lines;
 mod outcome;

@@ -1,16 +1,21 @@
 -- Where a round halts: what the ask that ends it is about.
-use Rattle.std.proofs.Common.{◌≡◌, ℕ, List, Option, None, Result, refl, ap, sym}
+use Rattle.std.proofs.Common.{◌≡◌, ℕ, List, length, Option, None, Result, Ok, Err, ap, sym}
 use Rattle.std.proofs.Common.{◌∙◌, subst, inl, inr}
-use Rattle.std.specs.Prelude.{◌⊎◌}
+use Rattle.std.specs.Prelude.{◌⊎◌, IfSome}
+use Rattle.std.proofs.lemmas.Bool.{false≢true}
+use Rattle.league_core.specs.game.Results.{Results}
+use Rattle.league_core.proofs.LogLemmas.{season_after_of}
 use Rattle.league_core.specs.declared.sheet.Sheet.{Sheet}
 use Rattle.league_core.specs.declared.season.Event.{Event}
 use Rattle.league_core.specs.game.Sheets.{IsWithinLimits}
-use Rattle.league_core.specs.game.Seasons.{season_after}
+use Rattle.league_core.specs.game.Seasons.{IsSeasonOf, season_after}
 use Rattle.port_core.specs.Readers.{LineReaderView}
 use Rattle.fixture_sheet.specs.LastReads.{ReadsOnWay}
 use Rattle.result_log.specs.declared.entry.Entry.{Entry}
+use Rattle.result_log.specs.declared.entry.Entry.TheVariants.{Change, Ask, Proofs, End}
 use Rattle.result_log.specs.declared.fault.FeedStop.{FeedStop}
 use Rattle.result_log.specs.inside.FeedParts.{LiveReading}
+use Rattle.result_log.specs.inside.Readings.{IsParsedThere, answer_as}
 use Rattle.result_log.specs.inside.LastReads.{GivesEvents, StopsAtClose}
 use Rattle.result_log.specs.inside.Rounds.{BreaksOff, EndsRound, Spot, live_entry}
 use Rattle.branch_pool.specs.inside.States.{PoolView, out_count}
@@ -18,18 +23,19 @@ use Rattle.worker_gate.specs.declared.round.Round.{Round}
 use Rattle.worker_gate.specs.declared.round.RoundEnd.{RoundEnd}
 use Rattle.worker_gate.specs.declared.round.RoundEnd.TheVariants as round
 use Rattle.worker_gate.specs.inside.Rounds.{close_of}
-use Rattle.what_if.specs.declared.round.StepEnd.{StepEnd}
-use Rattle.what_if.specs.declared.round.StepEnd.TheVariants as end
-use Rattle.what_if.specs.declared.round.StepRound.{StepRound}
-use Rattle.what_if.specs.inside.StepCalls.{IsEndAbout, IsEndUnplayed, live_step, step_close_of}
+use Rattle.what_if.specs.declared.step.Step.{Step}
+use Rattle.what_if.specs.declared.step.Step.TheVariants as step
+use Rattle.what_if.specs.Steps.{forget, step_of}
+use Rattle.what_if.specs.inside.StepCalls.{IsUnplayedFixture, live_step}
+use Rattle.what_if.proofs.StepLemmas.{step-about, step-may_come}
 use Rattle.command_words.specs.declared.command.Mode.{Mode}
 use Rattle.command_words.specs.declared.command.Mode.TheVariants.{Table, Scores, WhatIf, Check}
 use Rattle.command_words.specs.declared.command.Mode.TheVariants.{Sample}
 use Rattle.futmax_main.specs.declared.halting.Halt.{Halt}
 use Rattle.futmax_main.specs.Courses.{about_in}
-use Rattle.futmax_main.specs.inside.Halts.{IsAboutAt, IsAskable, about_at, round_end_of}
+use Rattle.futmax_main.specs.inside.Halts.{IsAboutAt, about_at}
 use Rattle.futmax_main.specs.inside.Progress.{line_after}
-use Rattle.futmax_main.specs.inside.RoundHalts.{HaltsRound, StarvesRound, halt_of, halt_of_steps}
+use Rattle.futmax_main.specs.inside.RoundHalts.{HaltsRound, StarvesRound, halt_at, halt_of}
 use Rattle.futmax_main.specs.inside.Turns.{IsLive, asked_by}
 
 -- a mode reads lines as what it is
@@ -39,39 +45,30 @@ reads-as mode other sheet is = ap (λ m. line_after m sheet) is
 
 -- ---- a round of steps
 
--- it ends the round as an entry does
-pub step-close : (end : StepEnd) → step_close_of end ≡ close_of (round_end_of end)
-step-close end.Ask = refl
-step-close (end.When fixture) = refl
-step-close end.End = refl
-step-close (end.Stop stop) = refl
-
 -- the round ends on what its last line is
 pub steps-end : (mode : Mode) (sheet : Sheet) (log log' : List Event) (from to : Spot)
-    (end : StepEnd) (found : RoundEnd) → mode ≡ WhatIf → found ≡ round_end_of end
-    → EndsRound (live_step sheet) log log' from to (step_close_of end)
+    (close : Result Entry FeedStop) (found : RoundEnd) → mode ≡ WhatIf → close_of found ≡ close
+    → EndsRound (live_step sheet) log log' from to close
     → EndsRound (line_after mode sheet) log log' from to (close_of found)
-steps-end mode sheet log log' from to end found is found_is ends =
+steps-end mode sheet log log' from to close found is found_is ends =
     let P : LiveReading → Type 0 = λ live. EndsRound live log log' from to (close_of found) in
     let Q : Result Entry FeedStop → Type 0 =
-    λ close. EndsRound (live_step sheet) log log' from to close in
-    subst P (sym (reads-as mode WhatIf sheet is))
-    (subst Q (step-close end ∙ ap close_of (sym found_is)) ends)
+    λ last. EndsRound (live_step sheet) log log' from to last in
+    subst P (sym (reads-as mode WhatIf sheet is)) (subst Q (sym found_is) ends)
 
 -- and stops there
 pub steps-last : {S : Type 0} (left : S → Option (List ℕ)) (reads : S → List ℕ → S → Type 0)
     (mode : Mode) (sheet : Sheet) (log : List Event) (old new : LineReaderView)
-    (before after : S) (end : StepEnd) (found : RoundEnd) → mode ≡ WhatIf
-    → found ≡ round_end_of end
-    → StopsAtClose left reads (live_step sheet) log old new before after (step_close_of end)
+    (before after : S) (close : Result Entry FeedStop) (found : RoundEnd) → mode ≡ WhatIf
+    → close_of found ≡ close
+    → StopsAtClose left reads (live_step sheet) log old new before after close
     → StopsAtClose left reads (line_after mode sheet) log old new before after (close_of found)
-steps-last left reads mode sheet log old new before after end found is found_is last =
+steps-last left reads mode sheet log old new before after close found is found_is stops =
     let P : LiveReading → Type 0 =
     λ live. StopsAtClose left reads live log old new before after (close_of found) in
     let Q : Result Entry FeedStop → Type 0 =
-    λ close. StopsAtClose left reads (live_step sheet) log old new before after close in
-    subst P (sym (reads-as mode WhatIf sheet is))
-    (subst Q (step-close end ∙ ap close_of (sym found_is)) last)
+    λ last. StopsAtClose left reads (live_step sheet) log old new before after last in
+    subst P (sym (reads-as mode WhatIf sheet is)) (subst Q (sym found_is) stops)
 
 -- ---- a round of entries
 
@@ -139,21 +136,47 @@ round-live mode pool next live sheet questions season home =
 
 -- ---- where a round halts
 
--- what a `when` or an ask that ends a round is about
-steps-about : (end : StepEnd) (content : List ℕ) → IsEndAbout content end
-    → IsAboutAt WhatIf (round_end_of end) content (about_at end)
-steps-about end.Ask content about = sym about
-steps-about (end.When fixture) content about = sym about
-steps-about end.End content about = tt
-steps-about (end.Stop stop) content about = tt
+module _ (sheet : Sheet) (season : Results) (events : ℕ) (content : List ℕ) where
+  -- what a `when` or an ask that ends a round is about
+  steps-about : (last : Result Step FeedStop) (end : RoundEnd)
+      → close_of end ≡ answer_as forget last
+      → IsParsedThere forget (step_of sheet season events) content last
+      → IsAboutAt WhatIf end content (about_at last)
+  steps-about (Ok (step.When fixture)) round.Ask is there =
+      sym (step-about sheet season events content (step.When fixture)
+      (there (λ (end : Ask ≡ End). cc)))
+  steps-about (Ok (step.Entry Ask)) round.Ask is there =
+      sym (step-about sheet season events content (step.Entry Ask)
+      (there (λ (end : Ask ≡ End). cc)))
+  steps-about (Ok (step.Entry (Change event))) round.Ask is there = cc
+  steps-about (Ok (step.Entry Proofs)) round.Ask is there = cc
+  steps-about (Ok (step.Entry End)) round.Ask is there = cc
+  steps-about (Err stop) round.Ask is there = cc
+  steps-about last round.End is there = tt
+  steps-about last (round.Stop stop) is there = tt
 
--- is a match to be played
-steps-askable : (end : StepEnd) (pool : PoolView) → IsEndUnplayed pool.sheet pool.season end
-    → IsAskable pool (about_at end)
-steps-askable end.Ask pool unplayed = tt
-steps-askable (end.When fixture) pool unplayed = unplayed
-steps-askable end.End pool unplayed = tt
-steps-askable (end.Stop stop) pool unplayed = tt
+  -- is a match to be played
+  steps-askable : (last : Result Step FeedStop) → IsSeasonOf sheet season
+      → IsParsedThere forget (step_of sheet season events) content last
+      → IfSome (about_at last) (IsUnplayedFixture sheet season)
+  steps-askable (Ok (step.When fixture)) of_sheet there =
+      step-may_come sheet season events content (step.When fixture) of_sheet
+      (there (λ (end : Ask ≡ End). cc))
+  steps-askable (Ok (step.Entry entry)) of_sheet there = tt
+  steps-askable (Err stop) of_sheet there = tt
+
+  -- no proofs follow
+  pub steps-no_proofs : (last : Result Step FeedStop) → IsSeasonOf sheet season
+      → IsParsedThere forget (step_of sheet season events) content last
+      → answer_as forget last ≡ Ok Proofs → ⊥
+  steps-no_proofs (Ok (step.When fixture)) of_sheet there is = cc
+  steps-no_proofs (Ok (step.Entry (Change event))) of_sheet there is = cc
+  steps-no_proofs (Ok (step.Entry Ask)) of_sheet there is = cc
+  steps-no_proofs (Ok (step.Entry Proofs)) of_sheet there is =
+      false≢true (step-may_come sheet season events content (step.Entry Proofs) of_sheet
+      (there (λ (end : Proofs ≡ End). cc)))
+  steps-no_proofs (Ok (step.Entry End)) of_sheet there is = cc
+  steps-no_proofs (Err stop) of_sheet there is = cc
 
 module _ {S : Type 0} (left : S → Option (List ℕ)) (reads : S → List ℕ → S → Type 0)
     (mode : Mode) (pool : PoolView) (from to : Spot) (before after : S) where
@@ -180,27 +203,32 @@ module _ {S : Type 0} (left : S → Option (List ℕ)) (reads : S → List ℕ �
       }
 
   -- a round of steps
-  pub steps-halt : (round : StepRound) (halt : Halt) → halt ≡ halt_of_steps round → mode ≡ WhatIf
-      → IsLive mode round.pool → round.pool.sheet ≡ pool.sheet
-      → EndsRound (live_step pool.sheet) pool.log round.pool.log from to (step_close_of round.end)
+  pub steps-halt : (round : PoolView) (end : RoundEnd) (last : Result Step FeedStop) (halt : Halt)
+      → halt ≡ halt_at round end (about_at last) → close_of end ≡ answer_as forget last
+      → mode ≡ WhatIf → IsLive mode round → round.sheet ≡ pool.sheet
+      → round.season ≡ season_after round.sheet round.log
+      → EndsRound (live_step pool.sheet) pool.log round.log from to (answer_as forget last)
       → StopsAtClose left reads (live_step pool.sheet) pool.log from.reader to.reader before after
-      (step_close_of round.end)
-      → IsEndAbout to.reader.text round.end
-      → IsEndUnplayed round.pool.sheet round.pool.season round.end
+      (answer_as forget last)
+      → IsParsedThere forget (step_of round.sheet round.season (length round.log)) to.reader.text
+      last
       → HaltsRound left reads mode pool from to before after halt
-  steps-halt round halt halts is live sheet ends last about unplayed =
+  steps-halt round end last halt halts is_end is live sheet season ends stops there =
       let P : Halt → Type 0 = λ at. HaltsRound left reads mode pool from to before after at in
-      let Q : Mode → Type 0 =
-      λ m. IsAboutAt m (round_end_of round.end) to.reader.text (about_at round.end) in
+      let Q : Mode → Type 0 = λ m. IsAboutAt m end to.reader.text (about_at last) in
+      let of_sheet =
+      subst (IsSeasonOf round.sheet) (sym season) (season_after_of round.sheet round.log) in
       subst P (sym halts) record {
         live = live;
         sheet = sheet;
-        about = subst Q (sym is) (steps-about round.end to.reader.text about);
-        askable = steps-askable round.end round.pool unplayed;
-        ends = steps-end mode pool.sheet pool.log round.pool.log from to round.end
-            (round_end_of round.end) is refl ends;
+        about = subst Q (sym is) (steps-about round.sheet round.season (length round.log)
+            to.reader.text last end is_end there);
+        askable = steps-askable round.sheet round.season (length round.log) to.reader.text last
+            of_sheet there;
+        ends = steps-end mode pool.sheet pool.log round.log from to (answer_as forget last) end is
+            is_end ends;
         last = steps-last left reads mode pool.sheet pool.log from.reader to.reader before after
-            round.end (round_end_of round.end) is refl last;
+            (answer_as forget last) end is is_end stops;
       }
 
   -- memory runs out in a round of lines that the mode reads so

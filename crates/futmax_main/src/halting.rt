@@ -1,10 +1,12 @@
 //! A round of the feed as the mode reads it: where it halts, and what the ask there is about.
 
-ghost use Rattle.std.specs.Prelude.{◌≡◌, IfOk, OnErr};
+ghost use Rattle.std.specs.Prelude.{◌≡◌, ◌≢◌, IfOk, Ok, OnErr};
+ghost use Rattle.result_log.specs.inside.Readings.{answer_as};
 ghost use Rattle.result_log.specs.inside.Rounds.{spot_of};
-ghost use Rattle.futmax_main.specs.inside.Halts.{about_at, round_end_of};
-ghost use Rattle.futmax_main.specs.inside.RoundHalts.{HaltsRound, StarvesRound, halt_of};
-ghost use Rattle.futmax_main.specs.inside.RoundHalts.{halt_of_steps};
+ghost use Rattle.worker_gate.specs.inside.Rounds.{IsNoEvent, close_of};
+ghost use Rattle.what_if.specs.Steps.{forget};
+ghost use Rattle.futmax_main.specs.inside.Halts.{about_at};
+ghost use Rattle.futmax_main.specs.inside.RoundHalts.{HaltsRound, StarvesRound, halt_at, halt_of};
 ghost use Rattle.futmax_main.specs.inside.Turns.{IsLive};
 
 use crate::setup::Setup;
@@ -12,10 +14,11 @@ use branch_pool::Pool;
 use command_words::Mode;
 use league_core::{OutOfMemory, Sheet};
 use port_core::{LineReader, Source};
+use result_log::{Entry, FeedStop};
 use std::sync::Wait;
 use std::thread::Threads;
-use what_if::{StepEnd, StepRound, read_steps};
-use worker_gate::{Gate, Round, RoundEnd, read_round, run_round};
+use what_if::{Step, Steps};
+use worker_gate::{Gate, ParsedRound, Round, RoundEnd, end_of, read_parsed, read_round, run_round};
 
 /// Where a round of the feed halted, and the fixture that it halted at an ask about, if it did.
 #[derive(Drop)]
@@ -52,7 +55,10 @@ pub fn next_round<R: Threads + Wait + Sync, S: Source + Send, G: Gate + Sync>(
             let round = run_round(setup.rt, alloc, sheet, pool, reader, source, workers, gate)?;
             Ok(halt_of(round))
         }
-        Mode::WhatIf => Ok(halt_of_steps(read_steps(alloc, pool, reader, source)?)),
+        Mode::WhatIf => {
+            let round = read_parsed(alloc, &Steps, pool, reader, source)?;
+            Ok(halt_of_steps(round))
+        }
         Mode::Table | Mode::Scores | Mode::Check | Mode::Sample { .. } => {
             Ok(halt_of(read_round(alloc, pool, reader, source)?))
         }
@@ -69,32 +75,24 @@ fn halt_of(round: Round) -> Halt
 }
 
 // A round of steps halts at what its last step asks about.
-fn halt_of_steps(round: StepRound) -> Halt
-    ensures { result ≡ halt_of_steps round }
+fn halt_of_steps(round: ParsedRound<Step>) -> Halt
+    requires over { IsNoEvent (answer_as forget round.last) }
+    requires proofs { answer_as forget round.last ≢ Ok Entry.Proofs }
+    ensures halt { result ≡ halt_at round.pool result.end (about_at round.last) }
+    ensures end { close_of result.end ≡ answer_as forget round.last }
 {
-    let StepRound { pool, end } = round;
-    let about = about_at(end);
-    let end = round_end_of(end);
+    let ParsedRound { pool, last } = round;
+    let about = about_at(last);
+    let end = end_of::<Steps>(last);
     Halt { pool, end, about }
 }
 
-// A round that ended on a `when` ended on an ask.
-fn round_end_of(end: StepEnd) -> RoundEnd
-    ensures { result ≡ round_end_of end }
+// The fixture of a `when` that was told last.
+fn about_at(last: Result<Step, FeedStop>) -> Option<u16>
+    ensures { result ≡ about_at last }
 {
-    match end {
-        StepEnd::Ask | StepEnd::When(_) => RoundEnd::Ask,
-        StepEnd::End => RoundEnd::End,
-        StepEnd::Stop(stop) => RoundEnd::Stop(stop),
-    }
-}
-
-// The fixture of that `when`.
-fn about_at(end: StepEnd) -> Option<u16>
-    ensures { result ≡ about_at end }
-{
-    match end {
-        StepEnd::When(fixture) => Some(fixture),
-        StepEnd::Ask | StepEnd::End | StepEnd::Stop(_) => None,
+    match last {
+        Ok(Step::When(fixture)) => Some(fixture),
+        Ok(Step::Entry(_)) | Err(_) => None,
     }
 }

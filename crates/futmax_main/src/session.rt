@@ -13,7 +13,7 @@ ghost use Rattle.futmax_main.specs.Top.{Counts, Serves};
 ghost use Rattle.futmax_main.specs.inside.Progress.{PathToPool, line_after};
 ghost use Rattle.futmax_main.specs.inside.TurnReads.{RoundStops, RoundsStop, TurnStops};
 ghost use Rattle.futmax_main.specs.inside.Turns.{AskGives, CloseGives, CountsClose, CountsTurn};
-ghost use Rattle.futmax_main.specs.inside.Halts.{IsAboutAt, IsAskable, about_at, round_end_of};
+ghost use Rattle.futmax_main.specs.inside.Halts.{IsAskable};
 ghost use Rattle.futmax_main.specs.inside.Turns.{IsLive, MayEndSession};
 ghost use Rattle.futmax_main.specs.inside.Turns.{TurnCounts, TurnGives};
 ghost use Rattle.futmax_main.specs.inside.Turns.{TurnBegins, TurnGoesOn, TurnIsLive};

@@ -6,6 +6,8 @@ use crate::line_telling::{answers, lines_told, memory};
 use crate::rows::{compare, number, part, rows};
 use port_core::{LineReader, StdSource};
 use std::alloc::Global;
+use std::io;
+use std::io::Read;
 use std::process::Abort;
 use std::test::Fail;
 
@@ -69,6 +71,38 @@ fn told_from_std(alloc: Global) -> Result<Vec<u8>, Fail> {
 fn lines_come_from_std(rt: HostRuntime) -> Result<(), Fail> {
     let out = told_from_std(rt.alloc())?;
     assert_eq!(rt; out.as_slice(), b"one1|two2|.3.3".as_slice());
+    Ok(())
+}
+
+// A reader that gives two bytes at a call, and of which the second call fails.
+#[derive(Drop)]
+struct Faulty<'a> {
+    left: &'a [u8],
+    calls: u8,
+}
+
+impl Read for Faulty<'_> {
+    fn read(&mut self, buf: &mut [u8]) -> io::Result<usize> {
+        self.calls = self.calls.saturating_add(1);
+        if self.calls == 2 {
+            return Err(io::ErrorKind::ConnectionReset.into());
+        }
+        let end = buf.len().min(2);
+        self.left.read(&mut buf[..end])
+    }
+}
+
+fn told_from_faulty(alloc: Global) -> Result<Vec<u8>, Fail> {
+    let left: &[u8] = b"ab\r\n#c\n\nd";
+    let mut source = StdSource::new(Faulty { left, calls: 0 });
+    answers(alloc, &mut source)
+}
+
+// The fault is told once, no byte is lost, and the rest comes with the reads after it.
+#[test]
+fn a_fault_of_std_loses_nothing(rt: HostRuntime) -> Result<(), Fail> {
+    let out = told_from_faulty(rt.alloc())?;
+    assert_eq!(rt; out.as_slice(), b"!ab1|d4|.5.5".as_slice());
     Ok(())
 }
 

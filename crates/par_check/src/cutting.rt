@@ -32,7 +32,8 @@ pub fn cut(alloc: Global, sheet: &Sheet, asks: &Asks, lines: &LineList) -> Resul
     ensures within { IfOk result (λ cut. All
         (IsItemIn sheet.now (length asks.now.epochs.items) (length lines.now)) cut.items.items) }
     // What `judge_item` says of each is what `check_all` comes to.
-    ensures told { IfOk result (λ cut. IsToldByItems sheet.now asks.now lines.now cut.items.items) }
+    ensures items { IfOk result (λ cut.
+        IsToldByItems sheet.now asks.now lines.now cut.items.items) }
 {
     let read = read_cut(alloc, sheet, asks, lines)?;
     let stop = match read.ending {
@@ -86,7 +87,7 @@ pub fn read_cut(
 fn stopped(items: Vec<Item>, stop: CheckStopAt) -> Result<CutRead, OutOfMemory>
     ensures items { IfOk result (λ read. read.items.items ≡ items.items) }
     ensures ending { IfOk result (λ read. read.ending ≡ Err stop) }
-    ensures told { IfOk result (λ read. IsTrue (is_of_lines stop)) }
+    ensures cause { IfOk result (λ read. IsTrue (is_of_lines stop)) }
 {
     let ending = match stop {
         CheckStopAt::BadLine(at) => Err(CheckStopAt::BadLine(at)),

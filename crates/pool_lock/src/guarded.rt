@@ -29,7 +29,7 @@ pub struct Guarded<J: Job> {
     pub(crate) pool: Pool,
     pub(crate) owner: Owner,
     changes: Book<J>,
-    feeder_busy: bool,
+    pub(crate) feeder_busy: bool,
     // no event will come
     pub(crate) is_shut: bool,
     // a worker may wait for something to change

@@ -16,8 +16,8 @@ use std::sync::Wait;
 
 impl<J: Job> Guarded<J> {
     // One turn of work in the pool, by a solver for the season that the badge has seen, after so
-    // many events; the badge is shown all events of the pool. Nothing if an event may come, or has
-    // come since.
+    // many events; the badge is shown all events of the pool. Nothing if an event may come or has
+    // come since, or if the one who reports is busy.
     pub fn work<W: Solver>(
         &mut self,
         word: &EpochWord,
@@ -31,6 +31,7 @@ impl<J: Job> Guarded<J> {
         requires season { W.season solver.old ≡ season_after J.sheet badge.old.list }
         ensures turn { IfSome result (λ turn. TakesTurn self.old.pool turn self.new.pool) }
         ensures shut { IfSome result (λ turn. self.old.pool.is_open ≡ false) }
+        ensures idle { IfSome result (λ turn. self.old.feeder_busy ≡ false) }
         ensures none { IfNone result (self.new ≡ self.old) }
         ensures still { IfSome result (λ turn. badge.new ≡ badge.old) }
         ensures begins { IsPrefix badge.old.list badge.new.list }
@@ -40,7 +41,7 @@ impl<J: Job> Guarded<J> {
         ensures same_season { W.season solver.new ≡ W.season solver.old }
     {
         seen(word, &mut self.owner, &mut badge.eye);
-        if !self.is_shut || self.pool.epoch() != epoch {
+        if !self.is_shut || self.feeder_busy || self.pool.epoch() != epoch {
             return None;
         }
         self.pool.recall_invariant();

@@ -1,7 +1,7 @@
 -- A tree that is read node by node: what a node more leaves due, and that nothing due is a tree.
 use Rattle.std.proofs.Common.{◌≡◌, ℕ, Bool, true, false, not, ◌&&◌, ◌||◌, ◌==◌, nat_lt, List, []}
 use Rattle.std.proofs.Common.{◌∷◌, ◌++◌, length, reverse, refl, sym, ap, ◌∙◌, None, ◌<◌, ◌≤◌, arith}
-use Rattle.std.proofs.lemmas.Bool.{and_parts, ltb-true, lt-ltb}
+use Rattle.std.proofs.lemmas.Bool.{and_parts, ltb-true, lt-ltb, false≢true}
 use Rattle.std.specs.List.{range_with_len}
 use Rattle.std.proofs.lemmas.List.{append_assoc, append-nil, reverse-append}
 use Rattle.league_core.specs.declared.sheet.Sheet.{Sheet}
@@ -25,7 +25,7 @@ use Rattle.league_core.proofs.TreeListLemmas.{preorder_injective, unread_exact}
 use Rattle.cert_text.specs.Ranges.{is_test_in_range}
 use Rattle.cert_text.specs.TreeLines.{is_test_for}
 use Rattle.cert_check.specs.ExpectedItems.{is_reason_for}
-use Rattle.pool_save.specs.inside.SavedTexts.{asks_again, IsSavedTree}
+use Rattle.pool_save.specs.inside.SavedTexts.{IsSavedNode, IsSavedTree}
 use Rattle.pool_save.specs.inside.SavedReadings.{asks_one_of, may_split, with_rival}
 use Rattle.pool_save.specs.inside.SoFar.{Marks, IsSavedBy, IsDrafted}
 
@@ -51,7 +51,7 @@ marked_half zone test holds rival =
     together false false false h = refl
 
 -- so do the rivals with that of the test
-marks_half : (rivals : List ℕ) (test : Test) (zone : List Literal) → Marks rivals zone
+pub marks_half : (rivals : List ℕ) (test : Test) (zone : List Literal) → Marks rivals zone
     → (holds : Bool) → Marks (with_rival rivals test) (with_test zone test holds)
 unfolding with_rival
 marks_half rivals test zone marks holds = λ club below.
@@ -74,17 +74,78 @@ rival_small sheet question rivals club may =
     (and_parts (is_test_in_range (Rival club)) (is_test_of sheet (Rival club)) both).0 in
     omega (arith, below)
 
+-- a test of a score that may come is in range, and of a fixture of the sheet
+score_in_zone : (range of_sheet own : Bool) → ((range && of_sheet && not own) && not false) ≡ true
+    → (of_sheet ≡ true) × (range ≡ true)
+score_in_zone true true own may = (refl, refl)
+score_in_zone true false own may = absurd (false≢true may)
+score_in_zone false of_sheet own may = absurd (false≢true may)
+
+-- a test of a rival that may come is in range, of a club of the sheet other than the question's,
+-- and of none that the zone marks
+rival_in_zone : (range of_sheet own other marked : Bool) → own ≡ other
+    → (range && of_sheet && not own && not marked) ≡ true
+    → ((of_sheet && not other && not marked) ≡ true) × (range ≡ true)
+rival_in_zone true of_sheet own other marked same may =
+    (ap (λ b. of_sheet && not b && not marked) (sym same) ∙ may, refl)
+rival_in_zone false of_sheet own other marked same may = absurd (false≢true may)
+
 -- a split that may come where the rivals were asked is one of a saved tree there
 split_in_zone : (sheet : Sheet) (question : Question) (rivals : List ℕ) (zone : List Literal)
-    (test : Test) → Marks rivals zone → may_split sheet question rivals test ≡ true
-    → (is_test_for sheet question test && not (asks_again zone test)) ≡ true
-split_in_zone sheet question rivals zone (Home fixture) marks may = may
-split_in_zone sheet question rivals zone (Draw fixture) marks may = may
-split_in_zone sheet question rivals zone (HomeMost fixture most) marks may = may
-split_in_zone sheet question rivals zone (AwayMost fixture most) marks may = may
-split_in_zone sheet question rivals zone (Rival club) marks may =
-    ap (λ b. is_test_for sheet question (Rival club) && not b)
-    (sym (marks club (rival_small sheet question rivals club may))) ∙ may
+    (test : Test) (fresh : Bool) → Marks rivals zone → may_split sheet question rivals test ≡ true
+    → IsSavedNode sheet question zone (Split test fresh)
+split_in_zone sheet question rivals zone (Home fixture) fresh marks may =
+    score_in_zone (is_test_in_range (Home fixture)) (is_test_of sheet (Home fixture)) false may
+split_in_zone sheet question rivals zone (Draw fixture) fresh marks may =
+    score_in_zone (is_test_in_range (Draw fixture)) (is_test_of sheet (Draw fixture)) false may
+split_in_zone sheet question rivals zone (HomeMost fixture most) fresh marks may =
+    score_in_zone (is_test_in_range (HomeMost fixture most))
+    (is_test_of sheet (HomeMost fixture most)) false may
+split_in_zone sheet question rivals zone (AwayMost fixture most) fresh marks may =
+    score_in_zone (is_test_in_range (AwayMost fixture most))
+    (is_test_of sheet (AwayMost fixture most)) false may
+split_in_zone sheet question rivals zone (Rival club) fresh marks may =
+    rival_in_zone (is_test_in_range (Rival club)) (is_test_of sheet (Rival club))
+    (is_of_rival question.club (Rival club)) (club == question.club) (is_marked zone club) refl
+    (ap (λ b. is_test_for sheet question (Rival club) && not b)
+    (sym (marks club (rival_small sheet question rivals club may))) ∙ may)
+
+-- and the other way
+score_may_come : (range of_sheet : Bool) → of_sheet ≡ true → range ≡ true
+    → ((range && of_sheet && true) && true) ≡ true
+score_may_come true true is in_range = refl
+score_may_come true false is in_range = absurd (false≢true is)
+score_may_come false of_sheet is in_range = absurd (false≢true in_range)
+
+rival_may_come : (range of_sheet own other marked : Bool) → own ≡ other
+    → (of_sheet && not other && not marked) ≡ true → range ≡ true
+    → (range && of_sheet && not own && not marked) ≡ true
+rival_may_come true of_sheet own other marked same may in_range =
+    ap (λ b. of_sheet && not b && not marked) same ∙ may
+rival_may_come false of_sheet own other marked same may in_range = absurd (false≢true in_range)
+
+pub split_may_come : (sheet : Sheet) (question : Question) (rivals : List ℕ)
+    (zone : List Literal) (test : Test) (fresh : Bool) → Marks rivals zone
+    → IsSavedNode sheet question zone (Split test fresh)
+    → may_split sheet question rivals test ≡ true
+split_may_come sheet question rivals zone (Home fixture) fresh marks saved =
+    score_may_come (is_test_in_range (Home fixture)) (is_test_of sheet (Home fixture)) saved.0
+    saved.1
+split_may_come sheet question rivals zone (Draw fixture) fresh marks saved =
+    score_may_come (is_test_in_range (Draw fixture)) (is_test_of sheet (Draw fixture)) saved.0
+    saved.1
+split_may_come sheet question rivals zone (HomeMost fixture most) fresh marks saved =
+    score_may_come (is_test_in_range (HomeMost fixture most))
+    (is_test_of sheet (HomeMost fixture most)) saved.0 saved.1
+split_may_come sheet question rivals zone (AwayMost fixture most) fresh marks saved =
+    score_may_come (is_test_in_range (AwayMost fixture most))
+    (is_test_of sheet (AwayMost fixture most)) saved.0 saved.1
+split_may_come sheet question rivals zone (Rival club) fresh marks saved =
+    let below = ltb-true club most_clubs saved.1 in
+    ap (λ b. is_test_for sheet question (Rival club) && not b) (marks club (omega (arith, below)))
+    ∙ rival_may_come (is_test_in_range (Rival club)) (is_test_of sheet (Rival club))
+    (is_of_rival question.club (Rival club)) (club == question.club) (is_marked zone club) refl
+    saved.0 saved.1
 
 -- ---- a node more
 
@@ -111,7 +172,7 @@ pub open_taken : (sheet : Sheet) (question : Question) (nodes : List TreeNode) (
     (due : List (List ℕ)) → IsDrafted sheet question nodes (set ∷ due)
     → IsDrafted sheet question (nodes ++ Open ∷ []) due
 open_taken sheet question nodes set due drafted =
-    part_taken sheet question nodes set due open_leaf drafted (λ zone marks. tt)
+    part_taken sheet question nodes set due open_leaf drafted (λ zone marks. (tt, refl))
 
 pub refuted_taken : (sheet : Sheet) (question : Question) (nodes : List TreeNode) (set : List ℕ)
     (due : List (List ℕ)) (reason : Reason) (fresh : Bool)
@@ -119,7 +180,7 @@ pub refuted_taken : (sheet : Sheet) (question : Question) (nodes : List TreeNode
     → IsDrafted sheet question (nodes ++ Refuted reason fresh ∷ []) due
 refuted_taken sheet question nodes set due reason fresh drafted may =
     part_taken sheet question nodes set due (refuted_leaf reason fresh) drafted
-    (λ zone marks. may)
+    (λ zone marks. (tt, may))
 
 -- a split: two parts are due in its place
 pub split_drafted : (sheet : Sheet) (question : Question) (nodes : List TreeNode)
@@ -144,7 +205,7 @@ split_drafted sheet question nodes set due test fresh drafted may (yes_half ∷ 
   where
     asked : IsSavedBy sheet question set (branch test fresh yes_half no_half)
     asked zone marks = (
-      split_in_zone sheet question set zone test marks may,
+      split_in_zone sheet question set zone test fresh marks may,
       fits.0 (with_test zone test true) (marks_half set test zone marks true),
       fits.1.0 (with_test zone test false) (marks_half set test zone marks false),
     )

@@ -5,3 +5,8 @@ pub mod StopLemmas
 pub mod WorkedTexts
 pub mod RivalLemmas
 pub mod HeldLemmas
+pub mod TakingUpLemmas
+pub mod OpenLemmas
+pub mod NearlyLemmas
+pub mod SavedBackLemmas
+pub mod OwnRowLemmas

@@ -28,6 +28,11 @@ pub leads-nothing : (sheet : Sheet) (asked : List Question) (start : Option Cont
 leads-nothing sheet asked None = ([], refl, λ rest. refl)
 leads-nothing sheet asked (Some contents) = ([], refl, λ rest. refl)
 
+-- no line was taken
+pub no_line_taken : (start : Option Contents) → TakesLines start start
+no_line_taken None = ([], refl)
+no_line_taken (Some contents) = ([], refl)
+
 -- one line more goes after those before
 with_lines-push : (lines : List (ℕ × List ℕ)) (number : ℕ) (text : List ℕ) (rest : Contents)
     → with_lines lines (with_line number text rest)

@@ -4,7 +4,7 @@ use Rattle.std.proofs.Common.{◌≡◌, ℕ, suc, zero, ◌+◌, ◌<◌, ◌�
 use Rattle.std.proofs.Common.{◌∷◌, ◌++◌}
 use Rattle.std.proofs.Common.{length, drop, map, Option, Some, None, refl, sym, ap, ◌∙◌, subst}
 use Rattle.std.proofs.Common.{length-append, inl, inr, arith, IfSome}
-use Rattle.std.specs.Prelude.{IsTrue, is_some, if◌then◌else◌}
+use Rattle.std.specs.Prelude.{IsTrue, IfOk, Result, Ok, Err, is_some, if◌then◌else◌}
 use Rattle.std.specs.List.{slice_get}
 use Rattle.std.proofs.lemmas.Bool.{cases_Bool}
 use Rattle.std.proofs.lemmas.Option.{none-some, same_Some}
@@ -14,12 +14,15 @@ use Rattle.league_core.specs.declared.tree.TreeNode.{TreeNode}
 use Rattle.league_core.specs.declared.tree.TreeNode.TheVariants.{Split, Open, Lent, Refuted}
 use Rattle.league_core.specs.search.Trees.{Tree}
 use Rattle.league_core.specs.inside.TreeLists.{tree_of}
+use Rattle.league_core.proofs.TreeLemmas.{NodesMeet-weaker}
 use Rattle.league_core.proofs.TreeListLemmas.{preorder-tree_of}
+use Rattle.tree_reuse.specs.inside.Asked.{IsAskedNode, IsAskedTree}
 use Rattle.cert_check.specs.declared.token.Token.{Token}
 use Rattle.cert_check.specs.declared.token.Token.TheVariants.{Blank, Row, Proof, Unknown}
 use Rattle.cert_check.specs.declared.expected.TreeKind.TheVariants.{Spent}
 use Rattle.cert_check.specs.ExpectedItems.{is_reason_for, node_in}
-use Rattle.pool_save.specs.inside.SavedTexts.{IsSavedTree, AreSavedTrees}
+use Rattle.pool_save.specs.inside.SavedTexts.{IsSavedNode, IsSavedTree, AreSavedTrees}
+use Rattle.pool_save.specs.inside.SavedTexts.{AreAskedTrees, AreFirstTreesOf}
 use Rattle.pool_save.specs.inside.SavedReadings.{SaveState, SaveStep, goes_on, whole, bad}
 use Rattle.pool_save.specs.inside.SavedReadings.{nothing_saved}
 use Rattle.pool_save.specs.inside.SavedReadings.{filled_places, is_row_of, is_end_row, item_begun}
@@ -27,7 +30,7 @@ use Rattle.pool_save.specs.inside.SavedReadings.{row_taken}
 use Rattle.pool_save.specs.inside.SavedReadings.{may_split, leaf_taken, split_taken, node_taken}
 use Rattle.pool_save.specs.inside.SavedReadings.{node_taken_if, with_rival}
 use Rattle.pool_save.specs.inside.SavedReadings.{question_due, save_taken}
-use Rattle.pool_save.specs.inside.SoFar.{IsDrafted, IsItemSoFar, AreFirstTrees, IsSaveState}
+use Rattle.pool_save.specs.inside.SoFar.{IsDrafted, IsItemSoFar, IsSaveState}
 use Rattle.pool_save.proofs.DraftLemmas.{draft_begun, open_taken, refuted_taken, split_drafted}
 use Rattle.pool_save.proofs.DraftLemmas.{draft_whole, draft_is_read}
 
@@ -45,9 +48,9 @@ nothing_sound sheet asked = record { first = tt; item = refl }
 
 -- one more
 first_more : (sheet : Sheet) (asked : List Question) (trees : List (Option Tree))
-    (question : Question) (tree : Option Tree) → AreFirstTrees sheet asked trees
+    (question : Question) (tree : Option Tree) → AreFirstTreesOf (IsSavedTree sheet) asked trees
     → slice_get asked (length trees) ≡ Some question → IfSome tree (IsSavedTree sheet question)
-    → AreFirstTrees sheet asked (trees ++ tree ∷ [])
+    → AreFirstTreesOf (IsSavedTree sheet) asked (trees ++ tree ∷ [])
 first_more sheet [] [] question tree first there may = absurd (none-some question there)
 first_more sheet [] (other ∷ trees) question tree first there may = absurd first
 first_more sheet (own ∷ asked) [] question tree first there may =
@@ -57,7 +60,8 @@ first_more sheet (own ∷ asked) (other ∷ trees) question tree first there may
 
 -- the questions that are left have none
 all_filled : (sheet : Sheet) (asked : List Question) (trees : List (Option Tree))
-    → AreFirstTrees sheet asked trees → AreSavedTrees sheet asked (filled_places asked trees)
+    → AreFirstTreesOf (IsSavedTree sheet) asked trees
+    → AreSavedTrees sheet asked (filled_places asked trees)
 all_filled sheet [] [] first = tt
 all_filled sheet [] (tree ∷ trees) first = absurd first
 all_filled sheet (question ∷ asked) [] first = (tt, all_filled sheet asked [] tt)
@@ -78,7 +82,7 @@ first_left (own ∷ asked) rest question (suc place) left =
 
 -- an item that begins
 begun_sound : (sheet : Sheet) (asked rest : List Question) (trees : List (Option Tree))
-    (fields : List (List ℕ)) → AreFirstTrees sheet asked trees
+    (fields : List (List ℕ)) → AreFirstTreesOf (IsSavedTree sheet) asked trees
     → drop (length trees) asked ≡ rest → IsSoundStep sheet asked (item_begun sheet rest trees
     fields)
 begun_sound sheet asked [] trees fields first left = tt
@@ -145,7 +149,7 @@ made_there sheet question nodes drafted = by (tree_of nodes) refl
 
 -- a leaf
 leaf_sound : (sheet : Sheet) (asked : List Question) (question : Question) (state : SaveState)
-    (node : TreeNode) (due : List (List ℕ)) → AreFirstTrees sheet asked state.trees
+    (node : TreeNode) (due : List (List ℕ)) → AreFirstTreesOf (IsSavedTree sheet) asked state.trees
     → slice_get asked (length state.trees) ≡ Some question
     → IsDrafted sheet question (state.nodes ++ node ∷ []) due
     → IsSaveState sheet asked (leaf_taken state node due)
@@ -162,7 +166,7 @@ leaf_sound sheet asked question state node (rivals ∷ due) first there drafted 
 
 -- a node
 node_sound : (sheet : Sheet) (asked : List Question) (question : Question) (state : SaveState)
-    (due : List (List ℕ)) (node : TreeNode) → AreFirstTrees sheet asked state.trees
+    (due : List (List ℕ)) (node : TreeNode) → AreFirstTreesOf (IsSavedTree sheet) asked state.trees
     → slice_get asked (length state.trees) ≡ Some question
     → IsItemSoFar sheet (Some question) state.nodes due
     → IsSoundStep sheet asked (node_taken sheet question state due node)
@@ -291,3 +295,31 @@ taken_few sheet asked state (Proof line) =
     by None it = tt
     by (Some question) None = tt
     by (Some question) (Some node) = node_few sheet question state state.due node
+
+-- ---- trees that are given
+
+-- a saved tree is one that its question may go on from
+saved_is_asked : (sheet : Sheet) (question : Question) (tree : Tree)
+    → IsSavedTree sheet question tree → IsAskedTree sheet question tree
+saved_is_asked sheet question tree saved =
+    NodesMeet-weaker (IsSavedNode sheet question) (IsAskedNode sheet question)
+    (λ zone node both. both.0) tree [] saved
+
+saved_are_asked : (sheet : Sheet) (asked : List Question) (trees : List (Option Tree))
+    → AreSavedTrees sheet asked trees → AreAskedTrees sheet asked trees
+saved_are_asked sheet [] [] saved = tt
+saved_are_asked sheet [] (tree ∷ trees) saved = absurd saved
+saved_are_asked sheet (question ∷ asked) [] saved = absurd saved
+saved_are_asked sheet (question ∷ asked) (None ∷ trees) saved =
+    (tt, saved_are_asked sheet asked trees saved.1)
+saved_are_asked sheet (question ∷ asked) (Some tree ∷ trees) saved =
+    (saved_is_asked sheet question tree saved.0, saved_are_asked sheet asked trees saved.1)
+
+-- so are those that a call gave
+pub given_are_asked : {V E : Type 0} → (sheet : Sheet) (asked : List Question)
+    (result : Result V E) (listed : V → List (Option Tree))
+    → IfOk result (λ trees. AreSavedTrees sheet asked (listed trees))
+    → IfOk result (λ trees. AreAskedTrees sheet asked (listed trees))
+given_are_asked sheet asked (Ok trees) listed saved =
+    saved_are_asked sheet asked (listed trees) saved
+given_are_asked sheet asked (Err stop) listed saved = tt

@@ -3,3 +3,7 @@ pub mod SoFar
 pub mod SavedTexts
 pub mod SavedReadings
 pub mod Calls
+pub mod TakingUp
+pub mod SavedLaws
+pub mod Nearly
+pub mod SavedItems

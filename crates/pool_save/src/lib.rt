@@ -4,11 +4,17 @@
 //! gives, in `specs/SavedReadings.antt`. Read them in this order.
 #![tactic(auto)]
 
+mod item;
+mod laws;
 mod reader;
 mod row;
 mod so_far;
 mod stop;
+mod taking_up;
 
-pub use reader::read_items;
+pub use item::{item_lines, item_row};
+pub use laws::{nearly_refuted_questions_are_not_spent, saved_texts_are_read_back};
+pub use reader::read_saved;
 pub use so_far::{SavedSoFar, Taken};
 pub use stop::SaveStop;
+pub use taking_up::take_up;

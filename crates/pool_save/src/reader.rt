@@ -5,9 +5,10 @@ ghost use Rattle.league_core.specs.game.Sheets.{IsWithinLimits};
 ghost use Rattle.league_core.specs.game.Questions.{IsQuestionOf};
 ghost use Rattle.port_core.specs.Contents.{Contents};
 ghost use Rattle.port_core.specs.Readers.{TakesInput, contents_to_come};
-ghost use Rattle.tree_reuse.specs.inside.Calls.{most_nodes};
+ghost use Rattle.tree_arena.specs.inside.Calls.{most_nodes};
 ghost use Rattle.cert_check.specs.Tokens.{token_of};
-ghost use Rattle.pool_save.specs.inside.SavedTexts.{AreSavedTrees};
+ghost use Rattle.verdict_run.specs.inside.AskedQuestions.{questions_of};
+ghost use Rattle.pool_save.specs.inside.SavedTexts.{AreAskedTrees, AreSavedTrees};
 ghost use Rattle.pool_save.specs.inside.SavedReadings.{save_taken};
 ghost use Rattle.pool_save.specs.inside.SoFar.{IsSaveState, save_step_of};
 ghost use Rattle.pool_save.specs.inside.Calls.{CountsSaved, LeadsSaved, LeavesSaved, ReadsSaved};
@@ -20,12 +21,43 @@ use cert_check::read_token;
 use league_core::{OutOfMemory, Question, Sheet};
 use port_core::{Line, LineReader, Source};
 use std::alloc::Global;
-use tree_reuse::Tree;
+use tree_arena::Tree;
+use verdict_run::questions;
 
-/// Reads a saved text of these questions up to and with the line `saved_end`: for each question its
+/// Reads a saved text up to and with the line `saved_end`: for each question about the sheet its
 /// tree, if it has an item. On return the reader is at the line after, or after the bad line. On
 /// any stop the trees so far are dropped.
-pub fn read_items<S: Source>(
+pub fn read_saved<S: Source>(
+    alloc: Global,
+    sheet: &Sheet,
+    reader: &mut LineReader,
+    source: &mut S,
+) -> Result<Vec<Option<Tree>>, SaveStop>
+    requires limits { IsWithinLimits sheet.now }
+    // If the source shows its bytes: what was still to come, and what is.
+    ensures reads { ReadsSaved sheet.now (questions_of sheet.now)
+        (contents_to_come reader.old (S.left source.old))
+        (contents_to_come reader.new (S.left source.new)) (given_as result (λ trees. trees.items)) }
+    ensures trees { IfOk result (λ trees.
+        AreSavedTrees sheet.now (questions_of sheet.now) trees.items) }
+    ensures asked { IfOk result (λ trees.
+        AreAskedTrees sheet.now (questions_of sheet.now) trees.items) }
+
+    // Where the reader is left, and that reading stops at the read that completes the answer.
+    ensures leaves { LeavesSaved reader.new (S.left source.new) result }
+    ensures takes { TakesInput reader.old reader.new (S.left source.old) (S.left source.new) }
+    ensures last { StopsAtSaved sheet.now (questions_of sheet.now) S.left S.reads reader.old
+        reader.new source.old source.new result }
+    ensures cause { CountsSaved (S.faults source.old) (S.faults source.new) result }
+{
+    match questions(alloc, sheet) {
+        Ok(asked) => read_items(alloc, sheet, asked.as_slice(), reader, source),
+        Err(OutOfMemory) => Err(SaveStop::OutOfMemory),
+    }
+}
+
+// The same, for a list of questions.
+fn read_items<S: Source>(
     alloc: Global,
     sheet: &Sheet,
     asked: &[Question],

@@ -9,7 +9,7 @@ ghost use Rattle.league_core.specs.game.ClubSets.{clubs_in};
 ghost use Rattle.league_core.specs.declared.question.Question.{Question};
 ghost use Rattle.league_core.specs.search.Zones.{is_of_rival};
 ghost use Rattle.league_core.specs.inside.TreeLists.{tree_of};
-ghost use Rattle.tree_reuse.specs.inside.Calls.{most_nodes};
+ghost use Rattle.tree_arena.specs.inside.Calls.{most_nodes};
 ghost use Rattle.pool_save.specs.inside.SavedReadings.{nothing_saved, save_taken, row_taken};
 ghost use Rattle.pool_save.specs.inside.SavedReadings.{item_begun, node_taken_if, question_due};
 ghost use Rattle.pool_save.specs.inside.SavedReadings.{filled_places};
@@ -24,7 +24,7 @@ use league_core::{ClubSet, OutOfMemory, Question, Sheet, Test, TreeNode};
 use std::alloc::Global;
 use std::marker::Model;
 use std::mem;
-use tree_reuse::{Tree, TreeStop};
+use tree_arena::{Tree, TreeStop};
 
 /// What a line makes of what is read so far.
 #[derive(Clone, Copy, PartialEq, Eq, Debug)]

@@ -5,6 +5,8 @@ ghost use Rattle.league_core.specs.game.Questions.{IsQuestionOf};
 ghost use Rattle.league_core.specs.game.Seasons.{IsEventOf};
 ghost use Rattle.league_core.specs.game.Sheets.{IsWithinLimits};
 ghost use Rattle.reason_core.specs.inside.Dones.{IsFor, IsTrueDone};
+ghost use Rattle.branch_pool.specs.inside.States.{out_count};
+ghost use Rattle.verdict_run.specs.inside.AskedQuestions.{questions_of};
 
 use crate::eligibility::{are_questions_of, done_of};
 use branch_pool::{Answer, Gave, Pool, Ticket, Took};
@@ -24,6 +26,9 @@ pub fn pool_of(alloc: Global, text: &[u8]) -> Result<Pool, Fail> {
 /// The pool of a sheet and all that is asked of it, with nothing reported.
 pub fn pool_of_sheet(alloc: Global, sheet: &Sheet) -> Result<Pool, Fail>
     requires { IsWithinLimits sheet.now }
+    ensures sheet { IfOk result (λ pool. pool.sheet ≡ sheet.now) }
+    ensures questions { IfOk result (λ pool. pool.questions ≡ questions_of sheet.now) }
+    ensures home { IfOk result (λ pool. out_count pool.loans ≡ 0) }
 {
     let asked = questions(alloc, sheet)?;
     Ok(Pool::begin(alloc, sheet.copy(alloc)?, asked)?)
@@ -83,7 +88,10 @@ pub fn may_be(season: &Season, event: &Event) -> bool
 }
 
 /// Reports to the pool an event that its season may take, and gives the new epoch.
-pub fn tell(pool: &mut Pool, event: Event) -> Result<u64, Fail> {
+pub fn tell(pool: &mut Pool, event: Event) -> Result<u64, Fail>
+    ensures sheet { pool.new.sheet ≡ pool.old.sheet }
+    ensures questions { pool.new.questions ≡ pool.old.questions }
+{
     if !may_be(pool.season(), &event) {
         return Err("no event of the season".into());
     }
@@ -91,7 +99,10 @@ pub fn tell(pool: &mut Pool, event: Event) -> Result<u64, Fail> {
 }
 
 /// The pool with all work done.
-pub fn finished(alloc: Global, pool: Pool) -> Result<Pool, Fail> {
+pub fn finished(alloc: Global, pool: Pool) -> Result<Pool, Fail>
+    ensures sheet { IfOk result (λ new. new.sheet ≡ pool.sheet) }
+    ensures questions { IfOk result (λ new. new.questions ≡ pool.questions) }
+{
     if pool.out() > 0 {
         return Err("a number is out".into());
     }

@@ -177,15 +177,15 @@ fn sixteen(alloc: Global) -> Result<Pool, Fail> {
 
 pub type Kinds = (u32, u32, u32, u32);
 
-// How many nodes of a tree are splits, leaves refuted by a set that ends below, leaves refuted by
-// count, and open leaves.
+// How many nodes of a tree are splits, leaves refuted by a set, leaves refuted by count, and open
+// leaves.
 fn kinds(nodes: &[TreeNode]) -> Kinds {
     let mut kinds = (0u32, 0u32, 0u32, 0u32);
     for node in nodes {
         match node {
             TreeNode::Split { .. } => kinds.0 = kinds.0.saturating_add(1),
             TreeNode::Refuted {
-                reason: Reason::High(_),
+                reason: Reason::Low(_) | Reason::High(_),
                 ..
             } => { kinds.1 = kinds.1.saturating_add(1) }
             TreeNode::Refuted {
@@ -202,12 +202,17 @@ fn kinds(nodes: &[TreeNode]) -> Kinds {
 /// The kinds of the nodes of a tree, how far its question is, and its units.
 pub type Tree = (Kinds, Option<Answer>, Option<u32>);
 
+/// The tree of the question at a place.
+pub fn seen_at(pool: &Pool, place: u16) -> Result<Tree, Fail> {
+    let nodes = nodes_at(pool, place)?;
+    let answer = answer_at(pool, place);
+    let units = units_at(pool, place);
+    Ok((kinds(nodes.as_slice()), answer, units))
+}
+
 /// The second tree.
 pub fn second(pool: &Pool) -> Result<Tree, Fail> {
-    let nodes = nodes_at(pool, OUTSIDE_OF_THE_FIRST)?;
-    let answer = answer_at(pool, OUTSIDE_OF_THE_FIRST);
-    let units = units_at(pool, OUTSIDE_OF_THE_FIRST);
-    Ok((kinds(nodes.as_slice()), answer, units))
+    seen_at(pool, OUTSIDE_OF_THE_FIRST)
 }
 
 // The second tree before and after a corrected score of the first match.

@@ -1,18 +1,22 @@
-//! Saved texts, read to their trees or to their first bad line, by hand. Three clubs; a match of
-//! the last two is open. Lines count from 1. The questions are whether C can be inside, outside,
-//! and the same of X and Y.
+//! Saved texts, read to their trees or to their first bad line, and taken up, by hand. Three clubs;
+//! a match of the last two is open. Lines count from 1. The questions are whether C can be inside,
+//! outside, and the same of X and Y. The budget is one node.
 
+ghost use Rattle.std.specs.Prelude.{IfOk};
 ghost use Rattle.league_core.specs.game.Sheets.{IsWithinLimits};
+ghost use Rattle.verdict_run.specs.inside.AskedQuestions.{questions_of};
+ghost use Rattle.pool_save.specs.inside.SavedTexts.{AreAskedTrees};
 
+use crate::help::{answer_at, finished, pool_of_sheet, units_at};
+use branch_pool::Answer;
 use league_core::{Sheet, TreeNode};
-use pool_save::{SaveStop, read_items};
+use pool_save::{SaveStop, read_saved, take_up};
 use port_core::{LineReader, MemSource};
 use sample_leagues::sample_of;
 use std::alloc::Global;
 use std::fmt::Write;
 use std::test::Fail;
-use tree_reuse::Tree;
-use verdict_run::questions;
+use tree_arena::Tree;
 
 const LEAGUE: &[u8] = b"league,Idle,1,1\nclub,C,1\nclub,X,2\nclub,Y,3\nmatch,X,Y\nline,1\nseason\n";
 
@@ -33,14 +37,25 @@ fn write_tree(text: &mut String, tree: &Option<Tree>) -> Result<(), Fail> {
     Ok(())
 }
 
+fn read_text(
+    alloc: Global,
+    sheet: &Sheet,
+    text: &[u8],
+) -> Result<Result<Vec<Option<Tree>>, SaveStop>, Fail>
+    requires { IsWithinLimits sheet.now }
+    ensures { IfOk result (λ read. IfOk read (λ trees.
+        AreAskedTrees sheet.now (questions_of sheet.now) trees.items)) }
+{
+    let mut reader = LineReader::new(alloc)?;
+    let mut source = MemSource::new(text.to_vec(alloc)?, 7, Vec::new(alloc));
+    Ok(read_saved(alloc, sheet, &mut reader, &mut source))
+}
+
 fn told_of(alloc: Global, sheet: &Sheet, text: &[u8]) -> Result<String, Fail>
     requires { IsWithinLimits sheet.now }
 {
-    let asked = questions(alloc, sheet)?;
-    let mut reader = LineReader::new(alloc)?;
-    let mut source = MemSource::new(text.to_vec(alloc)?, 7, Vec::new(alloc));
     let mut told = String::new(alloc);
-    match read_items(alloc, sheet, asked.as_slice(), &mut reader, &mut source) {
+    match read_text(alloc, sheet, text)? {
         Ok(trees) => {
             for tree in trees.as_slice() {
                 write_tree(&mut told, tree)?;
@@ -91,6 +106,60 @@ fn saved_texts_are_read_to_their_trees_or_first_bad_line(rt: HostRuntime) -> Res
     ] {
         let found = told(alloc, text)?;
         assert!(rt; found.as_str() == wanted, "{text}: {found}");
+    }
+    Ok(())
+}
+
+// How far the question is whether C can be inside, and how many nodes of its tree are new, when the
+// work is done of a pool that went on from the trees of a text.
+fn worked(
+    alloc: Global,
+    sheet: &Sheet,
+    trees: Vec<Option<Tree>>,
+) -> Result<(Option<Answer>, Option<u32>), Fail>
+    requires limits { IsWithinLimits sheet.now }
+    requires asked { AreAskedTrees sheet.now (questions_of sheet.now) trees.items }
+{
+    let pool = pool_of_sheet(alloc, sheet)?;
+    let pool = finished(alloc, take_up(pool, trees)?)?;
+    Ok((answer_at(&pool, 0), units_at(&pool, 0)))
+}
+
+fn resumed(alloc: Global, text: &str) -> Result<(Option<Answer>, Option<u32>), Fail> {
+    let sample = sample_of(alloc, LEAGUE).ok_or("no league")?;
+    match read_text(alloc, &sample.sheet, text.as_bytes())? {
+        Ok(trees) => worked(alloc, &sample.sheet, trees),
+        Err(_) => Err("no trees".into()),
+    }
+}
+
+#[test]
+fn a_pool_goes_on_from_saved_trees(rt: HostRuntime) -> Result<(), Fail> {
+    let alloc = rt.alloc();
+    // X or Y is before C; with neither, the two take two points together, and C has none.
+    let tree = "saved,1,C,inside\n[\"split\",\"rival\",2]\n[\"leaf\",\"count\"]\n\
+                [\"split\",\"rival\",3]\n[\"leaf\",\"count\"]\n";
+    for (rest, wanted, units) in [
+        (
+            "[\"leaf\",\"low\",[2,3]]\nsaved_end\n",
+            Answer::Refuted,
+            0u32,
+        ),
+        // A leaf whose reason does not hold is opened, and refuted anew.
+        ("[\"leaf\",\"tie\"]\nsaved_end\n", Answer::Refuted, 1),
+        ("[\"open\"]\nsaved_end\n", Answer::Refuted, 1),
+    ] {
+        let text = format!(in alloc; "{tree}{rest}")?;
+        let found = resumed(alloc, text.as_str())?;
+        assert!(rt; found.0 == Some(wanted) && found.1 == Some(units), "{rest}");
+    }
+    // Without a tree, or with one open leaf, one node more does not do.
+    for text in ["saved_end\n", "saved,1,C,inside\n[\"open\"]\nsaved_end\n"] {
+        let found = resumed(alloc, text)?;
+        assert!(rt;
+            found.0 == Some(Answer::Spent) && found.1 == Some(1),
+            "{text}"
+        );
     }
     Ok(())
 }

@@ -9,7 +9,7 @@ use Rattle.league_core.specs.declared.zone.Test.{Test}
 use Rattle.league_core.specs.declared.tree.TreeNode.TheVariants as node
 use Rattle.league_core.specs.search.Trees.{Tree, open_leaf, lent_leaf, refuted_leaf, branch}
 use Rattle.league_core.specs.search.Trees.{has_open}
-use Rattle.tree_reuse.specs.inside.Calls.{IsFirstLent, is_open_node, live_leaves}
+use Rattle.tree_arena.specs.inside.Calls.{IsFirstLent, is_open_node, live_leaves}
 use Rattle.league_core.proofs.LendingLemmas.{lent_zones_absent}
 use Rattle.league_core.proofs.PutLemmas.{put_absent}
 

@@ -5,7 +5,7 @@ use Rattle.league_core.specs.declared.tree.TreeNode.{TreeNode}
 use Rattle.league_core.specs.search.Trees.{Tree, preorder}
 use Rattle.league_core.specs.inside.TreeLists.{with_node, trees_of, only_tree, tree_of}
 use Rattle.league_core.proofs.TreeListLemmas.{preorder-tree_of}
-use Rattle.tree_reuse.proofs.ListLemmas.{trees_of-none}
+use Rattle.tree_arena.proofs.ListLemmas.{trees_of-none}
 
 -- a node that cannot stand before the trees after it makes the list that of no tree
 pub unread_at : (at : ℕ) (nodes : List TreeNode) (default : TreeNode)

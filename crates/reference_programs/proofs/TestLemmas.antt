@@ -6,7 +6,7 @@ use Rattle.league_core.specs.declared.sheet.Sheet.{Sheet}
 use Rattle.league_core.specs.declared.tree.TreeNode.TheVariants.{Split, Open, Lent, Refuted}
 use Rattle.league_core.specs.search.Trees.{Tree, open_leaf, lent_leaf, refuted_leaf, branch}
 use Rattle.league_core.specs.search.Trees.{preorder}
-use Rattle.tree_reuse.specs.inside.Calls.{IsNodeOf, AreTestsOf}
+use Rattle.tree_arena.specs.inside.Calls.{IsNodeOf, AreTestsOf}
 use Rattle.score_box.proofs.PathLemmas.{zone_with}
 use Rattle.reference_programs.specs.inside.Boxed.{HasTestsOf}
 use Rattle.league_core.proofs.plain.Parts.{All-first, All-last}

@@ -6,7 +6,7 @@ ghost use Rattle.league_core.specs.search.Zones.{is_test_of, is_zone_of};
 ghost use Rattle.league_core.specs.search.Options.{has_finish};
 ghost use Rattle.league_core.specs.search.Reasons.{has_reason};
 ghost use Rattle.league_core.specs.search.Trees.{branch};
-ghost use Rattle.tree_reuse.specs.inside.Calls.{AreTestsOf};
+ghost use Rattle.tree_arena.specs.inside.Calls.{AreTestsOf};
 ghost use Rattle.tree_reuse.specs.inside.Retargets.{halves_in, halves_by, leaf_kept, retargeted};
 ghost use Rattle.tree_reuse.specs.inside.Retargets.{retargeted_from};
 ghost use Rattle.reference_programs.specs.inside.Boxed.{HasTestsOf};

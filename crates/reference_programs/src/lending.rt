@@ -3,7 +3,7 @@
 ghost use Rattle.std.specs.Prelude.{◌≡◌, ◌≤◌, ◌+◌, ◌++◌, ◌∷◌, ◌↔◌, [], true, IsTrue, IfOk, OnErr};
 ghost use Rattle.league_core.specs.search.Trees.{open_leaf, refuted_leaf, branch, node_count};
 ghost use Rattle.league_core.specs.inside.Lending.{times_lent, lent_count, put, all_opened};
-ghost use Rattle.tree_reuse.specs.inside.Calls.{Lending, most_nodes};
+ghost use Rattle.tree_arena.specs.inside.Calls.{Lending, most_nodes};
 ghost use Rattle.reference_programs.specs.inside.Boxed.{LendsBelow, LendsHalf, LendsAt, LendsThere};
 ghost use Rattle.reference_programs.specs.inside.Boxed.{SplitsNode};
 

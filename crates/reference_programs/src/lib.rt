@@ -3,7 +3,7 @@
 //!
 //! The walk is the plain program of the definition of a verdict: it looks at every finish, so it
 //! serves seasons with few of them. Read `specs/inside/Reaches.antt` first. A tree in boxes is the
-//! plain second body of the tree of `tree_reuse`: both are seen as the tree of league_core's
+//! plain second body of the tree of `tree_arena`: both are seen as the tree of league_core's
 //! `specs/search/Trees.antt`, and `ZoneTree` is the contract that both meet.
 #![tactic(auto)]
 

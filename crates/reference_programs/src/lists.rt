@@ -2,14 +2,14 @@
 
 ghost use Rattle.std.specs.Prelude.{◌≡◌, ◌≤◌, ◌++◌, length, IfOk, IfErr};
 ghost use Rattle.league_core.specs.search.Trees.{preorder, zones_from, zones_of};
-ghost use Rattle.tree_reuse.specs.inside.Calls.{literals_of, most_nodes};
-ghost use Rattle.tree_reuse.specs.inside.Stops.{WhyNoTree};
+ghost use Rattle.tree_arena.specs.inside.Calls.{literals_of, most_nodes};
+ghost use Rattle.tree_arena.specs.inside.Stops.{WhyNoTree};
 ghost use Rattle.reference_programs.specs.inside.Boxed.{JoinsNode};
 
 use crate::boxed::{BoxedTree, Node};
 use league_core::{Listing, Literal, OutOfMemory, TreeNode, Zone};
 use std::alloc::Global;
-use tree_reuse::TreeStop;
+use tree_arena::TreeStop;
 
 impl BoxedTree {
     /// The nodes from the root on, the half where a test is true first.

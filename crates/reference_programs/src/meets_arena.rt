@@ -3,7 +3,7 @@
 use crate::zone_tree::ZoneTree;
 use league_core::{OutOfMemory, Question, Reason, Season, Sheet, Test, TreeNode, Zone};
 use std::alloc::Global;
-use tree_reuse::{Tree, TreeStop};
+use tree_arena::{Tree, TreeStop};
 
 impl ZoneTree for Tree {
     ghost seen = { λ tree. tree };

@@ -4,7 +4,7 @@ use crate::boxed::BoxedTree;
 use crate::zone_tree::ZoneTree;
 use league_core::{OutOfMemory, Question, Reason, Season, Sheet, Test, TreeNode, Zone};
 use std::alloc::Global;
-use tree_reuse::TreeStop;
+use tree_arena::TreeStop;
 
 impl ZoneTree for BoxedTree {
     ghost seen = { λ tree. tree };

@@ -2,7 +2,7 @@
 
 ghost use Rattle.std.specs.Prelude.{◌≡◌, ◌↔◌, IsTrue};
 ghost use Rattle.league_core.specs.search.Zones.{is_test_of};
-ghost use Rattle.tree_reuse.specs.inside.Calls.{AreTestsOf};
+ghost use Rattle.tree_arena.specs.inside.Calls.{AreTestsOf};
 ghost use Rattle.reference_programs.specs.inside.Boxed.{HasTestsOf};
 
 use crate::boxed::{BoxedTree, Node};

@@ -182,15 +182,15 @@ Stop-reads entry stop before after is same =
 -- what the content of a line is, said of the answer
 pub comes-of : (entry : LineEntry) (number : ℕ) (text : List ℕ)
     (result : Option (Result Entry FeedStop)) → AnswersLine number (entry text) result
-    → (entry text ≡ Ok (Some End) → ⊥) → ComesThere entry text result
-comes-of entry number text None answer no_end = answer
-comes-of entry number text (Some (Ok (Change event))) answer no_end = answer
-comes-of entry number text (Some (Ok Ask)) answer no_end = answer
-comes-of entry number text (Some (Ok Proofs)) answer no_end = answer
-comes-of entry number text (Some (Ok End)) answer no_end = tt
-comes-of entry number text (Some (Err (Fault refused fault))) answer no_end = answer.1
-comes-of entry number text (Some (Err (Read stop))) answer no_end = tt
-comes-of entry number text (Some (Err OutOfMemory)) answer no_end = tt
+    → ComesThere entry text result
+comes-of entry number text None answer = answer
+comes-of entry number text (Some (Ok (Change event))) answer = answer
+comes-of entry number text (Some (Ok Ask)) answer = answer
+comes-of entry number text (Some (Ok Proofs)) answer = answer
+comes-of entry number text (Some (Ok End)) answer = tt
+comes-of entry number text (Some (Err (Fault refused fault))) answer = answer.1
+comes-of entry number text (Some (Err (Read stop))) answer = tt
+comes-of entry number text (Some (Err OutOfMemory)) answer = tt
 
 -- no line was passed yet
 pub blank-none : (entry : LineEntry) (old : LineReaderView) (left : Option (List ℕ)) (ended : Bool)

@@ -1,6 +1,7 @@
 -- Lemmas on feeds: what is known of an entry that is read, and how a feed begins with it.
 use Rattle.std.proofs.Common.{◌≡◌, ◌≤◌, ℕ, Bool, true, false, List, [], ◌∷◌, ◌++◌, Option, None}
 use Rattle.std.proofs.Common.{Some, if◌then◌else◌, Result, Ok, Err, refl, ap, subst, ◌∙◌, arith}
+use Rattle.std.specs.Prelude.{IfOk, IfSome}
 use Rattle.std.proofs.lemmas.List.{length_push}
 use Rattle.league_core.specs.declared.sheet.Sheet.{Sheet}
 use Rattle.league_core.specs.declared.season.Event.{Event}
@@ -15,11 +16,15 @@ use Rattle.result_log.specs.declared.entry.Entry.TheVariants.{Change, Ask, Proof
 use Rattle.result_log.specs.declared.fault.FeedFault.{FeedFault}
 use Rattle.result_log.specs.declared.fault.FeedFault.TheVariants.{UnknownRecord}
 use Rattle.league_core.specs.game.Limits.{most_events}
-use Rattle.result_log.specs.Records.{IsEntryAt}
+use Rattle.result_log.specs.declared.fault.ContentStop.{ContentStop}
+use Rattle.result_log.specs.declared.fault.FeedStop.{FeedStop}
+use Rattle.result_log.specs.Records.{IsEntryAt, entry_of}
 use Rattle.result_log.specs.Feeds.{count_with, entry_if, entry_in, feed_by, feed_from, feed_of}
 use Rattle.result_log.specs.Feeds.{given, season_with}
 use Rattle.result_log.specs.inside.FeedParts.{EntryReading, events_with, entry_reading_by}
 use Rattle.result_log.specs.inside.FeedParts.{entry_reading_from, entry_reading_of}
+use Rattle.result_log.specs.inside.Calls.{AnswersContent}
+use Rattle.result_log.specs.inside.Readings.{IsParsedThere}
 use Rattle.result_log.specs.inside.Laws.{KeepsLog, feed_after}
 use Rattle.result_log.proofs.RecordLemmas.{entry_may_come}
 use Rattle.league_core.proofs.LogLemmas.{AreEventsOf-push, season_after_of}
@@ -47,6 +52,31 @@ line_may_come sheet season events proofs content entry of_sheet told =
     by_record false None told = cc
     by_record false (Some fields) told =
         entry_may_come sheet season events proofs fields entry of_sheet (given-some _ entry told)
+
+-- so may one that a call answers of a line
+pub content_may_come : (sheet : Sheet) (season : Results) (events : ℕ) (proofs : Bool)
+    (content : List ℕ) (result : Result (Option Entry) ContentStop) → IsSeasonOf sheet season
+    → AnswersContent (entry_in sheet season events proofs content) result
+    → IfOk result (λ found. IfSome found (λ entry. IsEntryAt season events proofs entry))
+content_may_come sheet season events proofs content (Ok None) of_sheet answer = tt
+content_may_come sheet season events proofs content (Ok (Some entry)) of_sheet answer =
+    line_may_come sheet season events proofs content entry of_sheet answer
+content_may_come sheet season events proofs content (Err stop) of_sheet answer = tt
+
+-- or of the line that it passed last
+pub there_may_come : (sheet : Sheet) (season : Results) (events : ℕ) (proofs : Bool)
+    (text : List ℕ) (result : Result Entry FeedStop) → IsSeasonOf sheet season
+    → IsParsedThere (λ told. told) (entry_of sheet season events proofs) text result
+    → IfOk result (λ entry. IsEntryAt season events proofs entry)
+there_may_come sheet season events proofs text (Ok (Change event)) of_sheet there =
+    line_may_come sheet season events proofs text (Change event) of_sheet
+    (there (λ (is : Change event ≡ End). cc))
+there_may_come sheet season events proofs text (Ok Ask) of_sheet there = tt
+there_may_come sheet season events proofs text (Ok Proofs) of_sheet there =
+    line_may_come sheet season events proofs text Proofs of_sheet
+    (there (λ (is : Proofs ≡ End). cc))
+there_may_come sheet season events proofs text (Ok End) of_sheet there = tt
+there_may_come sheet season events proofs text (Err stop) of_sheet there = tt
 
 -- so may one that is read in a line or after it
 line_reading_may_come : (sheet : Sheet) (season : Results) (events : ℕ) (proofs : Bool)

@@ -18,13 +18,14 @@ use Rattle.fixture_sheet.specs.Texts.{only_if, if_within, is_number, text_of}
 use Rattle.fixture_sheet.specs.Records.{names_of}
 use Rattle.fixture_sheet.specs.Records.{club_named}
 use Rattle.result_log.specs.declared.entry.Entry.{Entry}
-use Rattle.result_log.specs.declared.entry.Entry.TheVariants.{End}
+use Rattle.result_log.specs.declared.entry.Entry.TheVariants.{Change, Ask, Proofs, End}
 use Rattle.result_log.specs.declared.kind.Kind.{Kind}
 use Rattle.result_log.specs.declared.kind.Kind.TheVariants as kinds
 use Rattle.result_log.specs.declared.fault.FeedFault.{FeedFault}
 use Rattle.result_log.specs.declared.fault.FeedFault.TheVariants.{WrongWidth, UnknownFixture}
 use Rattle.result_log.specs.declared.fault.FeedFault.TheVariants.{UnknownClub, BadGoals, BadPoints}
 use Rattle.result_log.specs.declared.fault.FeedFault.TheVariants.{AlreadyPlayed, NotPlayed, LogFull}
+use Rattle.result_log.specs.inside.Readings.{MayBeTold}
 use Rattle.result_log.specs.Records.{IsEntryAt, club_in, entry_by, entry_of, entry_in_fields}
 use Rattle.result_log.specs.Records.{fixture_in, found_number, names_a_club, has_fixture}
 use Rattle.result_log.specs.Records.{has_goals}
@@ -270,3 +271,14 @@ pub answer_is_no_end : (sheet : Sheet) (season : Results) (events : ℕ) (proofs
     → result ≡ entry_of sheet season events proofs fields → result ≡ Ok End → ⊥
 answer_is_no_end sheet season events proofs fields result is end =
     entry_is_no_end sheet season events proofs fields (sym is ∙ end)
+
+-- an entry that is told may be told
+pub answer_may_be_told : (season : Results) (events : ℕ) (proofs : Bool)
+    (result : Result Entry FeedFault)
+    → IfOk result (λ entry. IsEntryAt season events proofs entry) → (result ≡ Ok End → ⊥)
+    → IfOk result (MayBeTold season events)
+answer_may_be_told season events proofs (Ok (Change event)) may_come never = may_come
+answer_may_be_told season events proofs (Ok Ask) may_come never = tt
+answer_may_be_told season events proofs (Ok Proofs) may_come never = tt
+answer_may_be_told season events proofs (Ok End) may_come never = never refl
+answer_may_be_told season events proofs (Err fault) may_come never = tt

@@ -1,7 +1,7 @@
 -- What the contents of an input are as a feed: entry by entry, each read in the season of the
 -- events before it, up to the end of the feed or the first refusal.
 use Rattle.std.specs.Prelude.{ℕ, ◌+◌, Bool, List, [], ◌∷◌, ◌++◌, Option, None, Some, Result, Ok}
-use Rattle.std.specs.Prelude.{Err, if◌then◌else◌}
+use Rattle.std.specs.Prelude.{Err, if◌then◌else◌, option_map}
 use Rattle.league_core.specs.declared.sheet.Sheet.{Sheet}
 use Rattle.league_core.specs.declared.season.Event.{Event}
 use Rattle.league_core.specs.game.Results.{Results}
@@ -17,26 +17,46 @@ use Rattle.result_log.specs.declared.fault.FeedStop.{FeedStop}
 use Rattle.result_log.specs.declared.fault.FeedStop.TheVariants.{Fault, Read}
 use Rattle.result_log.specs.Records.{entry_of}
 
--- ---- one line
+-- ---- one line, whatever its record tells
 
--- the entry of a record, or its refusal
-abbrev pub given : Result Entry FeedFault → Result (Option Entry) FeedFault
-given (Ok entry) = Ok (Some entry)
+-- what a record tells, or its refusal
+abbrev pub given : {T : Type 0} → Result T FeedFault → Result (Option T) FeedFault
+given (Ok told) = Ok (Some told)
 given (Err fault) = Err fault
+
+-- what a line's record tells, if a field is left of the line
+abbrev pub parsed_if : {T : Type 0} → (List (List ℕ) → Result T FeedFault) → Option (List (List ℕ))
+    → Result (Option T) FeedFault
+parsed_if tells None = Ok None
+parsed_if tells (Some fields) = given (tells fields)
+
+-- what the content of a line tells: a CR in it makes it no record
+abbrev pub parsed_in : {T : Type 0} → (List (List ℕ) → Result T FeedFault) → List ℕ
+    → Result (Option T) FeedFault
+parsed_in tells content =
+    if has_return content then Err UnknownRecord else parsed_if tells (record_of content)
+
+-- what is told as an entry
+abbrev pub found_as : {T : Type 0} → (T → Entry) → Result (Option T) FeedFault
+    → Result (Option Entry) FeedFault
+found_as entry (Ok found) = Ok (option_map entry found)
+found_as entry (Err fault) = Err fault
+
+-- what the content of a line tells as an entry
+abbrev pub line_as : {T : Type 0} → (T → Entry) → (List (List ℕ) → Result T FeedFault) → List ℕ
+    → Result (Option Entry) FeedFault
+line_as entry tells content = found_as entry (parsed_in tells content)
 
 -- the entry that a line's record is, if a field is left of the line
 abbrev pub entry_if :
     Sheet → Results → ℕ → Bool → Option (List (List ℕ)) → Result (Option Entry) FeedFault
-entry_if sheet season events proofs None = Ok None
-entry_if sheet season events proofs (Some fields) =
-    given (entry_of sheet season events proofs fields)
+entry_if sheet season events proofs found = parsed_if (entry_of sheet season events proofs) found
 
--- the entry that the content of a line is: a CR in it makes it no record
+-- the entry that the content of a line is
 abbrev pub entry_in :
     Sheet → Results → ℕ → Bool → List ℕ → Result (Option Entry) FeedFault
 entry_in sheet season events proofs content =
-    if has_return content then Err UnknownRecord
-    else entry_if sheet season events proofs (record_of content)
+    parsed_in (entry_of sheet season events proofs) content
 
 -- ---- the next entry
 

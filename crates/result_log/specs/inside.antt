@@ -2,6 +2,7 @@
 -- these words. Read in this order.
 pub mod FeedParts
 pub mod Calls
+pub mod Readings
 pub mod Rounds
 pub mod LastReads
 pub mod Laws

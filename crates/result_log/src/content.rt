@@ -1,14 +1,16 @@
-//! The entry of one line.
+//! What one line tells.
 
 ghost use Rattle.std.specs.Prelude.{◌≤◌, IfOk, IfSome, length};
 ghost use Rattle.league_core.specs.game.Seasons.{IsSeasonOf};
 ghost use Rattle.result_log.specs.inside.Calls.{AnswersContent};
-ghost use Rattle.result_log.specs.Feeds.{entry_in};
+ghost use Rattle.result_log.specs.inside.Readings.{MayBeReadIn, MayBeTold};
+ghost use Rattle.result_log.specs.Feeds.{entry_in, parsed_in};
 ghost use Rattle.result_log.specs.Records.{IsEntryAt};
 
+use crate::entries::Entries;
 use crate::entry::Entry;
 use crate::fault::{ContentStop, FeedFault};
-use crate::record::read_event;
+use crate::reading::{Reading, SeasonSoFar};
 use fixture_sheet::{FieldsStop, fields_of};
 use league_core::{Season, Sheet};
 use std::alloc::Global;
@@ -34,9 +36,31 @@ pub fn read_content(
     ensures is_entry { IfOk result (λ found. IfSome found (λ entry.
         IsEntryAt season.now events proofs entry)) }
 {
+    let at = SeasonSoFar {
+        sheet,
+        season,
+        events,
+    };
+    content_parsed(alloc, &Entries { proofs }, &at, content)
+}
+
+/// What the content of a line tells, none if no field is left of it, or the first refusal.
+pub(crate) fn content_parsed<R: Reading>(
+    alloc: Global,
+    reading: &R,
+    at: &SeasonSoFar<'_>,
+    content: &[u8],
+) -> Result<Option<R::Parsed>, ContentStop>
+    requires { MayBeReadIn at.now.sheet.now at.now.season.now }
+    ensures answer { AnswersContent
+        (parsed_in (R.tells reading.now at.now.sheet.now at.now.season.now at.now.events)
+        content.now) result }
+    ensures may_be { IfOk result (λ found. IfSome found (λ told.
+        MayBeTold at.now.season.now at.now.events (R.entry told))) }
+{
     match fields_of(alloc, content) {
-        Ok(Some(fields)) => match read_event(sheet, season, events, &fields, proofs) {
-            Ok(entry) => Ok(Some(entry)),
+        Ok(Some(fields)) => match reading.read(at, &fields) {
+            Ok(told) => Ok(Some(told)),
             Err(fault) => Err(ContentStop::Fault(fault)),
         },
         Ok(None) => Ok(None),

@@ -7,19 +7,23 @@
 #![tactic(auto)]
 
 mod content;
+mod entries;
 mod entry;
 mod fault;
 mod kind;
 mod laws;
 mod reader;
+mod reading;
 mod record;
 
 pub use content::read_content;
+pub use entries::{Entries, next_entry};
 pub use entry::Entry;
 pub use fault::{ContentStop, FeedFault, FeedStop};
 pub use laws::{
     a_feed_is_read_entry_by_entry, a_feed_is_read_round_by_round, a_round_is_read_as_its_lines,
     events_told_may_be_applied,
 };
-pub use reader::next_entry;
-pub use record::read_event;
+pub use reader::next_parsed;
+pub use reading::{Reading, SeasonSoFar};
+pub use record::{fixture_of, read_event};

@@ -1,128 +1,128 @@
-//! The next entry of an input.
+//! What the next record of an input tells.
 
-ghost use Rattle.std.specs.Prelude.{◌≡◌, ◌≤◌, IfOk, IfSome, length};
-ghost use Rattle.league_core.specs.game.Seasons.{IsSeasonOf};
+ghost use Rattle.std.specs.Prelude.{IfOk, IfSome, option_map, true};
 ghost use Rattle.port_core.specs.Readers.{TakesInput, contents_to_come};
 ghost use Rattle.port_core.specs.inside.ReaderCalls.{LeavesReader, PassesTo, given_by};
-ghost use Rattle.result_log.specs.inside.Calls.{ComesThere, PassesToEntry, AnswersLine};
+ghost use Rattle.result_log.specs.inside.Calls.{AnswersLine, ComesThere, PassesToEntry};
 ghost use Rattle.result_log.specs.inside.Calls.{CountsEntry, CountsRecord, MovesToEntry};
 ghost use Rattle.result_log.specs.inside.Calls.{MovesToRecord, ReadsEntry, ReadsRecord};
 ghost use Rattle.result_log.specs.inside.Calls.{entry_answer_after, answer_there};
-ghost use Rattle.result_log.specs.Feeds.{entry_in};
+ghost use Rattle.result_log.specs.Feeds.{line_as, parsed_in};
 ghost use Rattle.result_log.specs.inside.LastReads.{StopsAtEntry, StopsAtRecord};
+ghost use Rattle.result_log.specs.inside.Readings.{IsParsedThere, MayBeReadIn, MayBeTold};
+ghost use Rattle.result_log.specs.inside.Readings.{answer_as};
 ghost use Rattle.result_log.specs.Records.{IsEntryAt};
 
-use crate::content::read_content;
-use crate::entry::Entry;
+use crate::content::content_parsed;
 use crate::fault::{ContentStop, FeedStop};
-use league_core::{Season, Sheet};
+use crate::reading::{Reading, SeasonSoFar};
 use port_core::{Line, LineReader, Source};
 use std::alloc::Global;
 
-/// Reads on to the next record, and gives its entry, or the first refusal of that line. Lines whose
-/// fields are all empty are passed over. After an answer the reader stands at the next line.
-///
-/// `events` is how many events came before, and `season` is the season after them; `proofs` is
-/// whether proofs may follow the feed.
-pub fn next_entry<S: Source>(
+/// Reads on to the next record, and gives what it tells, or the first refusal of that line. Lines
+/// whose fields are all empty are passed over. After an answer the reader stands at the next line.
+pub fn next_parsed<R: Reading, S: Source>(
     alloc: Global,
-    sheet: &Sheet,
-    season: &Season,
-    events: u64,
-    proofs: bool,
+    reading: &R,
+    at: &SeasonSoFar<'_>,
     reader: &mut LineReader,
     source: &mut S,
-) -> Result<Entry, FeedStop>
-    requires of_sheet { IsSeasonOf sheet.now season.now }
-    requires clubs { length sheet.now.clubs ≤ 255 }
-    requires numbers { length sheet.now.fixtures ≤ 65535 }
+) -> Result<R::Parsed, FeedStop>
+    requires { MayBeReadIn at.now.sheet.now at.now.season.now }
     // If the source tells its bytes: what was still to come, and what is.
-    ensures reads { ReadsEntry (entry_in sheet.now season.now events proofs)
+    ensures reads { ReadsEntry (line_as R.entry
+        (R.tells reading.now at.now.sheet.now at.now.season.now at.now.events))
         (contents_to_come reader.old (S.left source.old))
-        (contents_to_come reader.new (S.left source.new)) result }
-    ensures is_entry { IfOk result (λ entry. IsEntryAt season.now events proofs entry) }
+        (contents_to_come reader.new (S.left source.new)) (answer_as R.entry result) }
+    ensures there { IsParsedThere R.entry
+        (R.tells reading.now at.now.sheet.now at.now.season.now at.now.events) reader.new.text
+        result }
+    ensures may_come { IfOk result (λ told.
+        IsEntryAt at.now.season.now at.now.events true (R.entry told)) }
 
     // Which lines of the input were passed, all but the last without a record, and where the reader
     // is left. At the end nothing is left of the source; at a read fault no whole line is in hand.
-    ensures passes { PassesToEntry (entry_in sheet.now season.now events proofs)
+    ensures passes { PassesToEntry (line_as R.entry
+        (R.tells reading.now at.now.sheet.now at.now.season.now at.now.events))
         reader.old reader.new (S.left source.old) (S.left source.new)
-        (S.ended source.old) (S.ended source.new) result }
+        (S.ended source.old) (S.ended source.new) (answer_as R.entry result) }
     ensures leaves { LeavesReader reader.new (S.left source.new)
-        (entry_answer_after reader.new result) }
+        (entry_answer_after reader.new (answer_as R.entry result)) }
     ensures takes { TakesInput reader.old reader.new (S.left source.old) (S.left source.new) }
-    ensures moves { MovesToEntry reader.old reader.new result }
+    ensures moves { MovesToEntry reader.old reader.new (answer_as R.entry result) }
 
     // Reading stops at the read that completes the answer.
-    ensures last { StopsAtEntry S.left S.reads (entry_in sheet.now season.now events proofs)
-        reader.old reader.new source.old source.new result }
-    ensures cause { CountsEntry (S.faults source.old) (S.faults source.new) result }
+    ensures last { StopsAtEntry S.left S.reads (line_as R.entry
+        (R.tells reading.now at.now.sheet.now at.now.season.now at.now.events))
+        reader.old reader.new source.old source.new (answer_as R.entry result) }
+    ensures cause { CountsEntry (S.faults source.old) (S.faults source.new)
+        (answer_as R.entry result) }
 {
     'records: loop {
-        if let Some(result) = take_line(alloc, sheet, season, events, proofs, reader, source) {
+        if let Some(result) = take_line(alloc, reading, at, reader, source) {
             return result;
         }
     }
 }
 
-// What the next line is, or none if no field is left of it.
-fn take_line<S: Source>(
+// What the next line tells, or none if no field is left of it.
+fn take_line<R: Reading, S: Source>(
     alloc: Global,
-    sheet: &Sheet,
-    season: &Season,
-    events: u64,
-    proofs: bool,
+    reading: &R,
+    at: &SeasonSoFar<'_>,
     reader: &mut LineReader,
     source: &mut S,
-) -> Option<Result<Entry, FeedStop>>
-    requires of_sheet { IsSeasonOf sheet.now season.now }
-    requires clubs { length sheet.now.clubs ≤ 255 }
-    requires numbers { length sheet.now.fixtures ≤ 65535 }
-    ensures reads { ReadsRecord (entry_in sheet.now season.now events proofs)
+) -> Option<Result<R::Parsed, FeedStop>>
+    requires { MayBeReadIn at.now.sheet.now at.now.season.now }
+    ensures reads { ReadsRecord (line_as R.entry
+        (R.tells reading.now at.now.sheet.now at.now.season.now at.now.events))
         (contents_to_come reader.old (S.left source.old))
-        (contents_to_come reader.new (S.left source.new)) result }
-    ensures is_entry { IfSome result (λ answer. IfOk answer (λ entry.
-        IsEntryAt season.now events proofs entry)) }
+        (contents_to_come reader.new (S.left source.new))
+        (option_map (answer_as R.entry) result) }
+    ensures there { IfSome result (IsParsedThere R.entry
+        (R.tells reading.now at.now.sheet.now at.now.season.now at.now.events) reader.new.text) }
+    ensures may_come { IfSome result (λ answer. IfOk answer (λ told.
+        IsEntryAt at.now.season.now at.now.events true (R.entry told))) }
     ensures passes { PassesTo reader.old reader.new (S.left source.old) (S.left source.new)
         (S.ended source.old) (S.ended source.new)
-        (given_by (answer_there reader.new result) reader.new.text) }
-    ensures comes { ComesThere (entry_in sheet.now season.now events proofs) reader.new.text
-        result }
+        (given_by (answer_there reader.new (option_map (answer_as R.entry) result))
+        reader.new.text) }
+    ensures comes { ComesThere (line_as R.entry
+        (R.tells reading.now at.now.sheet.now at.now.season.now at.now.events))
+        reader.new.text (option_map (answer_as R.entry) result) }
     ensures leaves { LeavesReader reader.new (S.left source.new)
-        (answer_there reader.new result) }
+        (answer_there reader.new (option_map (answer_as R.entry) result)) }
     ensures takes { TakesInput reader.old reader.new (S.left source.old) (S.left source.new) }
-    ensures moves { MovesToRecord reader.old reader.new result }
-    ensures last { StopsAtRecord S.left S.reads reader.old reader.new source.old source.new result }
-    ensures cause { CountsRecord (S.faults source.old) (S.faults source.new) result }
+    ensures moves { MovesToRecord reader.old reader.new (option_map (answer_as R.entry) result) }
+    ensures last { StopsAtRecord S.left S.reads reader.old reader.new source.old source.new
+        (option_map (answer_as R.entry) result) }
+    ensures cause { CountsRecord (S.faults source.old) (S.faults source.new)
+        (option_map (answer_as R.entry) result) }
 {
     match reader.next(source) {
-        Ok(Line::Text { number }) => {
-            entry_in(alloc, sheet, season, events, proofs, number, reader.text())
-        }
-        Ok(Line::End { number: _ }) => Some(Ok(Entry::End)),
+        Ok(Line::Text { number }) => line_parsed(alloc, reading, at, number, reader.text()),
+        Ok(Line::End { number: _ }) => Some(Ok(R::end())),
         Err(stop) => Some(Err(FeedStop::Read(stop))),
     }
 }
 
-// What the content of the line of this number is, or none if no field is left of it.
-fn entry_in(
+// What the content of the line of this number tells, or none if no field is left of it.
+fn line_parsed<R: Reading>(
     alloc: Global,
-    sheet: &Sheet,
-    season: &Season,
-    events: u64,
-    proofs: bool,
+    reading: &R,
+    at: &SeasonSoFar<'_>,
     number: u64,
     content: &[u8],
-) -> Option<Result<Entry, FeedStop>>
-    requires of_sheet { IsSeasonOf sheet.now season.now }
-    requires clubs { length sheet.now.clubs ≤ 255 }
-    requires numbers { length sheet.now.fixtures ≤ 65535 }
-    ensures answer { AnswersLine number (entry_in sheet.now season.now events proofs content.now)
-        result }
-    ensures is_entry { IfSome result (λ answer. IfOk answer (λ entry.
-        IsEntryAt season.now events proofs entry)) }
+) -> Option<Result<R::Parsed, FeedStop>>
+    requires { MayBeReadIn at.now.sheet.now at.now.season.now }
+    ensures answer { AnswersLine number
+        (parsed_in (R.tells reading.now at.now.sheet.now at.now.season.now at.now.events)
+        content.now) result }
+    ensures may_be { IfSome result (λ answer. IfOk answer (λ told.
+        MayBeTold at.now.season.now at.now.events (R.entry told))) }
 {
-    match read_content(alloc, sheet, season, events, proofs, content) {
-        Ok(Some(entry)) => Some(Ok(entry)),
+    match content_parsed(alloc, reading, at, content) {
+        Ok(Some(told)) => Some(Ok(told)),
         Ok(None) => None,
         Err(ContentStop::Fault(fault)) => Some(Err(FeedStop::Fault { number, fault })),
         Err(ContentStop::OutOfMemory) => Some(Err(FeedStop::OutOfMemory)),

@@ -155,8 +155,8 @@ fn points_of(fields: &Fields) -> Option<u8>
     }
 }
 
-// The fixture of the second field, by its number from 0.
-fn fixture_of(sheet: &Sheet, fields: &Fields) -> Option<u16>
+/// The fixture of the second field, by its number from 0.
+pub fn fixture_of(sheet: &Sheet, fields: &Fields) -> Option<u16>
     requires { length sheet.now.fixtures ≤ 65535 }
     ensures value { result ≡ only_if (has_fixture sheet.now fields.now) (fixture_in fields.now) }
     ensures within { IfSome result (λ fixture. fixture < length sheet.now.fixtures) }

@@ -8,6 +8,7 @@ ghost use Rattle.pool_lock.specs.inside.Lends.{IsWorkAfter};
 use crate::alone::{be_alone, be_late};
 use crate::found::{finding_at, found_at, lose};
 use crate::overtaken::be_overtaken;
+use crate::woken::be_woken;
 use branch_pool::{Gave, Ticket, Took};
 use league_core::{Event, OutOfMemory, Score, Sheet};
 use pool_lock::{Front, Job, LentOut, PoolLock, WorkBadge};
@@ -15,6 +16,7 @@ use reason_core::Done;
 use std::alloc::Global;
 use std::sync::Wait;
 use std::test::Fail;
+use std::thread::Threads;
 
 #[derive(Clone, Copy)]
 pub enum Case {
@@ -30,6 +32,8 @@ pub enum Case {
     Overtaken,
     /// Nothing is asked, and the feed is shut: the first worker is told that all is over.
     Shut,
+    /// Nothing is asked, and the feed is shut while the first worker waits.
+    Woken,
     /// One that has a ticket asks for work in the pool while the feed is not shut.
     Early,
     /// The same once the feed is shut.
@@ -52,7 +56,7 @@ pub fn event_of(case: Case) -> Event {
 
 /// Plays a case with two badges, and returns what became of the two tickets, if they were given
 /// back.
-pub fn meet<J: Job, R: Wait>(
+pub fn meet<J: Job + Send + Sync, R: Threads + Wait + Sync>(
     rt: &R,
     alloc: Global,
     sheet: &Sheet,
@@ -71,8 +75,13 @@ pub fn meet<J: Job, R: Wait>(
             Case::Overtaken => be_overtaken(rt, alloc, sheet, lock, front, one, two, event),
             Case::Shut => {
                 lock.shut(rt, front);
-                be_over(rt, lock, one)
+                if is_over(rt, lock, one) {
+                    Ok(None)
+                } else {
+                    Err("not over".into())
+                }
             }
+            Case::Woken => be_woken(rt, lock, front, one),
             Case::Late => be_late(rt, alloc, sheet, lock, front, one, event),
             Case::Early | Case::Alone => {
                 tell(rt, lock, front, one, event)?;
@@ -230,18 +239,14 @@ fn swap<J: Job, R: Wait>(
     }
 }
 
-// Nothing is lent any more.
-fn be_over<J: Job, R: Wait>(
-    rt: &R,
-    lock: &PoolLock<J>,
-    badge: &mut WorkBadge<J>,
-) -> Result<Option<(Gave, Gave)>, Fail> {
+/// Whether nothing is lent any more.
+pub fn is_over<J: Job, R: Wait>(rt: &R, lock: &PoolLock<J>, badge: &mut WorkBadge<J>) -> bool {
     match lock.lend(rt, badge) {
-        Ok(LentOut::Over) => Ok(None),
+        Ok(LentOut::Over) => true,
         Ok(LentOut::Work(ticket)) => {
             lose(ticket);
-            Err("not over".into())
+            false
         }
-        Err(OutOfMemory) => Err("no memory".into()),
+        Err(OutOfMemory) => false,
     }
 }

@@ -29,3 +29,5 @@ mod rounds;
 mod trees;
 #[cfg(test)]
 mod watched;
+#[cfg(test)]
+mod woken;

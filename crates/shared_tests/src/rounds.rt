@@ -25,6 +25,7 @@ use std::marker::Brand;
 use std::sync::Wait;
 use std::sync::ledger::Blank;
 use std::test::Fail;
+use std::thread::Threads;
 use verdict_run::questions;
 
 const TWO_CLUBS: &[u8] = b"league,Tiny,1\nclub,A,1\nclub,B,2\nmatch,A,B\nline,1\nseason\n";
@@ -41,13 +42,22 @@ pub struct Seated {
 }
 
 /// A round of two clubs in which the workers play a case.
-pub fn see_round<R: Wait>(rt: &R, alloc: Global, case: Case) -> Result<Round, Fail> {
+pub fn see_round<R: Threads + Wait + Sync>(
+    rt: &R,
+    alloc: Global,
+    case: Case,
+) -> Result<Round, Fail> {
     let sample = sample_of(alloc, TWO_CLUBS).ok_or("no league")?;
     round_of(rt, alloc, &sample.sheet, case)
 }
 
 // The same on the sheet.
-fn round_of<R: Wait>(rt: &R, alloc: Global, sheet: &Sheet, case: Case) -> Result<Round, Fail>
+fn round_of<R: Threads + Wait + Sync>(
+    rt: &R,
+    alloc: Global,
+    sheet: &Sheet,
+    case: Case,
+) -> Result<Round, Fail>
     requires limits { IsWithinLimits sheet.now }
 {
     let event = event_of(case);
@@ -100,20 +110,20 @@ pub fn pool_of(alloc: Global, sheet: &Sheet, case: Case) -> Result<Pool, OutOfMe
     Pool::begin(alloc, sheet.copy(alloc)?, asked)
 }
 
-// What is asked in a case: nothing if the feed is shut at once.
+// What is asked in a case: nothing if the feed is only shut.
 fn asked_in(alloc: Global, sheet: &Sheet, case: Case) -> Result<Vec<Question>, OutOfMemory>
     requires limits { IsWithinLimits sheet.now }
     ensures of_sheet { IfOk result (λ asked. All (IsQuestionOf sheet.now) asked.items) }
     ensures few { IfOk result (λ asked. length asked.items ≤ 192) }
 {
     match case {
-        Case::Shut => Ok(Vec::new(alloc)),
+        Case::Shut | Case::Woken => Ok(Vec::new(alloc)),
         _ => questions(alloc, sheet),
     }
 }
 
 // The two workers and the one who reports meet at the lock, and then the feed is shut.
-fn round_as<J: Job, R: Wait>(
+fn round_as<J: Job + Send + Sync, R: Threads + Wait + Sync>(
     rt: &R,
     alloc: Global,
     sheet: &Sheet,
@@ -235,6 +245,13 @@ fn what_is_out_when_a_result_comes_is_stale(rt: HostRuntime) -> Result<(), Fail>
 #[test]
 fn lend_returns_over_after_shut(rt: HostRuntime) -> Result<(), Fail> {
     let round = watched(&rt, Case::Shut)?;
+    assert_eq!(rt; (round.gave, round.logged), (None, 0));
+    Ok(())
+}
+
+#[test]
+fn lend_that_waits_is_woken_by_shut(rt: HostRuntime) -> Result<(), Fail> {
+    let round = watched(&rt, Case::Woken)?;
     assert_eq!(rt; (round.gave, round.logged), (None, 0));
     Ok(())
 }

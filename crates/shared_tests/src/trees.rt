@@ -5,13 +5,14 @@ ghost use Rattle.league_core.specs.declared.sheet.Sheet.{Sheet};
 ghost use Rattle.league_core.specs.game.Seasons.{IsLeague};
 ghost use Rattle.league_core.specs.search.Trees.{open_leaf, branch};
 ghost use Rattle.league_core.specs.search.Zones.{is_test_of};
-ghost use Rattle.tree_reuse.specs.inside.Calls.{IsNodeOf, AreTestsOf};
+ghost use Rattle.tree_arena.specs.inside.Calls.{IsNodeOf, AreTestsOf};
 
 use league_core::{Claim, OutOfMemory, Question, Reason, Season, Sheet, Test, TreeNode};
 use sample_leagues::{Sample, is_below, sample_of};
 use std::alloc::Global;
 use std::test::Fail;
-use tree_reuse::{Tree, TreeStop, retarget};
+use tree_arena::{Tree, TreeStop};
+use tree_reuse::retarget;
 
 /// Two clubs that meet twice, and the first match played.
 const TWO_CLUBS: &[u8] = b"league,Tiny,1\nclub,A,1\nclub,B,2\nmatch,A,B\nmatch,B,A\nline,1\nseason

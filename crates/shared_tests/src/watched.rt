@@ -1,5 +1,5 @@
 //! A round that fails its test if it does not end. All that meet in it are on one thread, so
-//! whoever has to wait there waits in vain.
+//! whoever has to wait there waits in vain, but for the case in which the feed is shut on another.
 
 use crate::cases::Case;
 use crate::end::Round;

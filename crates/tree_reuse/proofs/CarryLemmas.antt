@@ -25,11 +25,11 @@ use Rattle.tree_reuse.specs.declared.carry.Part.{Part}
 use Rattle.tree_reuse.specs.declared.carry.Part.TheVariants.{Dropped, Kept}
 use Rattle.tree_reuse.specs.inside.Retargets.{halves_in, retargeted_from}
 use Rattle.tree_reuse.specs.inside.Carrying.{path_after, nodes_to_come}
-use Rattle.tree_reuse.specs.inside.Steps.{literal_of, zone_of_part}
+use Rattle.tree_arena.specs.inside.Steps.{literal_of, zone_of_part}
 use Rattle.tree_reuse.specs.inside.Carrying.{halves_kept, parts_after, split_kept, nodes_kept}
 use Rattle.tree_reuse.specs.inside.Carrying.{parts_next, nodes_next, ArePartsOf, IsWalk}
-use Rattle.tree_reuse.specs.inside.Calls.{IsNodeOf}
-use Rattle.tree_reuse.proofs.ZoneLemmas.{length-zone_of_part, zone_of_part-begins}
+use Rattle.tree_arena.specs.inside.Calls.{IsNodeOf}
+use Rattle.tree_arena.proofs.ZoneLemmas.{length-zone_of_part, zone_of_part-begins}
 
 -- a part that is to come has a node
 pub walk_some : (question : Question) (zone_box : ZoneBoxView) (nodes : List TreeNode) (part : Part)

@@ -3,7 +3,7 @@
 use Rattle.std.proofs.Common.{◌++◌, ◌≡◌, ℕ, ◌+◌, ◌<◌, ◌≤◌, Bool, true, false, ◌&&◌, ◌||◌, ◌==◌, not}
 use Rattle.std.proofs.Common.{nat_le}
 use Rattle.std.proofs.Common.{None, nat_lt, List, [], length, cond, refl, sym, ap, ◌∙◌, arith}
-use Rattle.std.proofs.lemmas.Bool.{false≢true, and_parts, and_from, leb-true, le-leb}
+use Rattle.std.proofs.lemmas.Bool.{and_parts, and_from, leb-true, le-leb}
 use Rattle.std.proofs.lemmas.Option.{none-some}
 use Rattle.std.proofs.lemmas.List.Elements.{All-nil, All-cons, All-append}
 use Rattle.league_core.specs.declared.sheet.Sheet.{Sheet}
@@ -19,7 +19,7 @@ use Rattle.league_core.specs.search.Zones.{marked_after, is_marked, is_test_of}
 use Rattle.league_core.specs.search.Options.{has_finish}
 use Rattle.league_core.specs.search.Reasons.{has_reason}
 use Rattle.league_core.specs.search.Trees.{Tree, open_leaf, lent_leaf, refuted_leaf, branch}
-use Rattle.league_core.specs.search.Trees.{NodesMeet, preorder, node_count, new_count, has_open}
+use Rattle.league_core.specs.search.Trees.{NodesMeet, preorder, node_count, new_count}
 use Rattle.league_core.specs.inside.Lending.{lent_count, times_lent}
 use Rattle.league_core.specs.search.Splits.{IsProperNode, is_proper, have_both_finish}
 use Rattle.league_core.proofs.HalfLemmas.{half_has_finish, root_has_finish, no_rival, after_in_half}
@@ -28,9 +28,10 @@ use Rattle.league_core.proofs.TreeLemmas.{length-preorder}
 use Rattle.league_core.proofs.TreeListLemmas.{preorder_injective}
 use Rattle.league_core.proofs.LendingLemmas.{times_lent-le}
 use Rattle.league_core.proofs.HalfLemmas.{before_in_half}
+use Rattle.tree_arena.proofs.LeafLemmas.{node_count-some}
 use Rattle.tree_reuse.specs.declared.halves.Halves.{Halves}
 use Rattle.tree_reuse.specs.declared.halves.Halves.TheVariants.{Both, YesAlone, NoAlone}
-use Rattle.tree_reuse.specs.inside.Calls.{IsNodeOf, AreTestsOf}
+use Rattle.tree_arena.specs.inside.Calls.{IsNodeOf, AreTestsOf}
 use Rattle.tree_reuse.specs.inside.Retargets.{halves_by, halves_in, leaf_kept, retargeted_from}
 use Rattle.tree_reuse.specs.inside.Retargets.{most_kept, within_limit, retargeted}
 use Rattle.tree_reuse.specs.inside.RetargetLaws.{IsKeptNode}
@@ -95,13 +96,6 @@ new_count-retargeted_from sheet season question zone (branch test fresh yes_half
     (λ _. omega (arith, no_first, no_second))
     (λ _. new_count-retargeted_from sheet season question zone yes_half)
     (λ _. new_count-retargeted_from sheet season question zone no_half)
-
--- a tree has a node
-pub node_count-some : (tree : Tree) → 1 ≤ node_count tree
-node_count-some open_leaf = omega arith
-node_count-some (lent_leaf number) = omega arith
-node_count-some (refuted_leaf reason fresh) = omega arith
-node_count-some (branch test fresh yes_half no_half) = omega arith
 
 -- it has no more nodes than before
 pub node_count-retargeted_from : (sheet : Sheet) (season : Results) (question : Question)
@@ -384,16 +378,6 @@ pub proper_tests : (sheet : Sheet) (season : Results) (question : Question) (zon
     (tree : Tree) → NodesMeet (IsProperNode sheet season question) zone tree → AreTestsOf sheet tree
 proper_tests sheet season question zone tree proper =
     asked_tests sheet question zone tree (proper_asked sheet season question zone tree proper)
-
--- a tree of one node that has an open leaf is one
-pub open_leaf_is : (tree : Tree) → node_count tree ≡ 1 → has_open tree ≡ true → tree ≡ open_leaf
-open_leaf_is open_leaf one some = refl
-open_leaf_is (lent_leaf number) one some = absurd (false≢true some)
-open_leaf_is (refuted_leaf reason fresh) one some = absurd (false≢true some)
-open_leaf_is (branch test fresh yes_half no_half) one some =
-    let first = node_count-some yes_half in
-    let second = node_count-some no_half in
-    absurd (omega arith)
 
 -- a tree of one open leaf stays as it is
 pub open_leaf_stays : (sheet : Sheet) (season : Results) (question : Question) (tree : Tree)

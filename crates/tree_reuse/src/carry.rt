@@ -9,20 +9,20 @@ ghost use Rattle.league_core.specs.search.Trees.{preorder};
 ghost use Rattle.tree_reuse.specs.declared.carry.Part.TheVariants.{Kept};
 ghost use Rattle.tree_reuse.specs.inside.Retargets.{halves_in, leaf_kept, retargeted_from};
 ghost use Rattle.tree_reuse.specs.inside.Carrying.{path_after, halves_kept};
-ghost use Rattle.tree_reuse.specs.inside.Steps.{literal_of, zone_of_part};
+ghost use Rattle.tree_arena.specs.inside.Steps.{literal_of, zone_of_part};
 ghost use Rattle.tree_reuse.specs.inside.Carrying.{parts_after, parts_dropped, parts_next};
 ghost use Rattle.tree_reuse.specs.inside.Carrying.{split_kept, nodes_kept, nodes_next, IsLiteralOf};
-ghost use Rattle.tree_reuse.specs.inside.Calls.{IsNodeOf};
+ghost use Rattle.tree_arena.specs.inside.Calls.{IsNodeOf};
 ghost use Rattle.tree_reuse.specs.inside.Carrying.{ArePartsOf};
-ghost use Rattle.tree_reuse.specs.inside.Calls.{AreTestsOf};
+ghost use Rattle.tree_arena.specs.inside.Calls.{AreTestsOf};
 
 use crate::box_moves::back_to;
 use crate::halves::Halves;
-use crate::tree::Tree;
 use league_core::{Literal, OutOfMemory, Question, Reason, Test, TreeNode};
 use score_box::ZoneBox;
 use std::alloc::Global;
 use tie_bound::holds;
+use tree_arena::Tree;
 
 /// A part of the tree that is still to come, next on the list of nodes.
 #[derive(Clone, Copy)]

@@ -5,7 +5,7 @@
 //! that anyone made in `specs/inside/Asked.antt`.
 
 ghost use Rattle.std.specs.Prelude.{◌≡◌};
-ghost use Rattle.tree_reuse.specs.inside.Calls.{most_nodes};
+ghost use Rattle.tree_arena.specs.inside.Calls.{most_nodes};
 ghost use Rattle.tree_reuse.specs.inside.Retargets.{most_kept};
 ghost use Rattle.tree_reuse.specs.inside.RetargetLaws.{RetargetedTreesLendNothing};
 ghost use Rattle.tree_reuse.specs.inside.RetargetLaws.{RetargetedTreesHaveNothingNew};
@@ -15,7 +15,7 @@ ghost use Rattle.tree_reuse.specs.inside.RetargetLaws.{ProperTreesAreOfTheSheet}
 ghost use Rattle.tree_reuse.specs.inside.Asked.{AskedTreesAreGood, ProperTreesAreAsked};
 
 use crate::halves::MOST_KEPT;
-use crate::tree::MOST_NODES;
+use tree_arena::MOST_NODES;
 
 /// The constants are the numbers that the definitions state.
 pub fn constants_are_the_limits()

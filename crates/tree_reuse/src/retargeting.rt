@@ -2,17 +2,16 @@
 
 ghost use Rattle.std.specs.Prelude.{◌≡◌, ◌<◌, [], length, IfOk, OnOk};
 ghost use Rattle.league_core.specs.game.Seasons.{IsLeague};
-ghost use Rattle.tree_reuse.specs.inside.Calls.{AreTestsOf};
+ghost use Rattle.tree_arena.specs.inside.Calls.{AreTestsOf};
 ghost use Rattle.tree_reuse.specs.inside.Retargets.{retargeted};
 
 use crate::box_moves::root_box;
 use crate::carry::carry;
 use crate::halves::MOST_KEPT;
-use crate::stop::TreeStop;
-use crate::tree::Tree;
 use league_core::{OutOfMemory, Question, Season, Sheet};
 use score_box::{Played, ZoneBox};
 use std::alloc::Global;
+use tree_arena::{Tree, TreeStop};
 
 /// What the season leaves of a tree: refuted leaves whose reasons still hold, and the splits above
 /// them; a tree of more than 100,001 nodes is one open leaf. One look at each node; for a tree that

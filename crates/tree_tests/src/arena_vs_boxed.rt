@@ -6,7 +6,7 @@ use league_core::TreeNode;
 use reference_programs::{BoxedTree, ZoneTree};
 use std::alloc::Global;
 use std::test::Fail;
-use tree_reuse::{Tree, TreeStop};
+use tree_arena::{Tree, TreeStop};
 
 // Whether a tree that is one open leaf lends it under 7, with no literal in its zone.
 fn lends_root<T: ZoneTree>(tree: &mut T) -> Result<bool, Fail> {

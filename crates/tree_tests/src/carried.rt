@@ -3,7 +3,7 @@
 ghost use Rattle.std.specs.Prelude.{◌≡◌, All, IsTrue, IfOk, length};
 ghost use Rattle.league_core.specs.game.Seasons.{IsLeague};
 ghost use Rattle.league_core.specs.declared.sheet.Sheet.{Sheet};
-ghost use Rattle.tree_reuse.specs.inside.Calls.{IsNodeOf, AreTestsOf};
+ghost use Rattle.tree_arena.specs.inside.Calls.{IsNodeOf, AreTestsOf};
 
 use crate::rows::tree_or_fail;
 use league_core::{Claim, OutOfMemory, Question, Sheet, Test, TreeNode};
@@ -11,7 +11,7 @@ use reference_programs::{BoxedTree, ZoneTree};
 use sample_leagues::{Sample, sample_of};
 use std::alloc::Global;
 use std::test::Fail;
-use tree_reuse::Tree;
+use tree_arena::Tree;
 
 /// Two clubs that meet twice, with a goal limit of 5. A won the first match by more than that.
 const WON_12_0: &[u8] = b"league,Tiny,5\nclub,A,1\nclub,B,2\nmatch,A,B\nmatch,B,A\nline,1

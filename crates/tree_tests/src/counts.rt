@@ -8,7 +8,7 @@ ghost use Rattle.tree_tests.specs.inside.LentNodes.{is_lent_node};
 use league_core::{OutOfMemory, TreeNode, Zone};
 use reference_programs::ZoneTree;
 use std::test::Fail;
-use tree_reuse::{MOST_NODES, Tree};
+use tree_arena::{MOST_NODES, Tree};
 
 fn is_lent(node: &TreeNode, number: u64) -> bool
     ensures { result ≡ is_lent_node number node.now }

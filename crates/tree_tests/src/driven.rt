@@ -6,7 +6,7 @@ use reference_programs::{BoxedTree, ZoneTree};
 use sample_leagues::Draws;
 use std::alloc::Global;
 use std::test::Fail;
-use tree_reuse::Tree;
+use tree_arena::Tree;
 
 /// A tree with more nodes gives way to a new one.
 const MANY: usize = 500;

@@ -6,7 +6,7 @@ use crate::rows::tree_or_fail;
 use league_core::{Literal, OutOfMemory, Test, TreeNode};
 use std::alloc::Global;
 use std::test::Fail;
-use tree_reuse::Tree;
+use tree_arena::Tree;
 
 // At most so many goals of the home club in the second match.
 fn at_most(most: u8) -> Test {

@@ -7,7 +7,7 @@ use league_core::{Literal, OutOfMemory, Test, TreeNode, Zone};
 use reference_programs::ZoneTree;
 use std::alloc::Global;
 use std::test::Fail;
-use tree_reuse::{MOST_NODES, Tree, TreeStop};
+use tree_arena::{MOST_NODES, Tree, TreeStop};
 
 /// A test of a match of its own.
 pub fn test_at(fixture: u16) -> Test {

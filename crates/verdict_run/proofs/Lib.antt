@@ -2,6 +2,7 @@
 -- that are due, questions that are decided, answers and tables of seasons, and events of a sample.
 pub mod AskedLemmas
 pub mod WorkLemmas
+pub mod TurnLemmas
 pub mod NewTreeLemmas
 pub mod SettledLemmas
 pub mod ShownLemmas

@@ -2,8 +2,8 @@
 use Rattle.std.proofs.Common.{◌≡◌, ℕ, Bool, true, false, ◌&&◌, List}
 use Rattle.std.proofs.Common.{length, Vec}
 use Rattle.std.proofs.Common.{Global, refl, sym, ap, ◌∙◌, subst, arith, get_or, Option}
-use Rattle.std.proofs.Common.{Some, None}
-use Rattle.std.specs.Prelude.{is_some, IfSome}
+use Rattle.std.proofs.Common.{Some, None, Result, Ok, Err}
+use Rattle.std.specs.Prelude.{is_some, IfOk, IfSome}
 use Rattle.std.specs.List.{slice_get, list_all}
 use Rattle.std.proofs.lemmas.Bool.{false≢true, or_from}
 use Rattle.std.proofs.lemmas.List.{get_or-map, length-map}
@@ -83,16 +83,19 @@ refuted_part sheet season question tree lines shown are = record {
 }
 
 -- a tree on which the budget was spent as a part
-pub spent_part : (sheet : Sheet) (season : Results) (question : Question) (tree : Tree)
-    (lines : Vec ProofLine Global) → IsFairSpentTree sheet season question sheet.budget tree
-    → is_all_new tree ≡ true → lines.items ≡ with_spent_head question.claim (marked_lines tree)
-    → IsAnswerPart sheet season question (record { known = Spent; lines = lines })
-spent_part sheet season question tree lines shown new are = record {
-  shows = (tree, shown, new, are);
+pub spent_part : {E : Type 0} (sheet : Sheet) (season : Results) (question : Question) (tree : Tree)
+    (result : Result Part E) → IsFairSpentTree sheet season question sheet.budget tree
+    → is_all_new tree ≡ true → IfOk result (λ part. part.known ≡ Spent)
+    → IfOk result
+    (λ part. part.lines.items ≡ with_spent_head question.claim (marked_lines tree))
+    → IfOk result (IsAnswerPart sheet season question)
+spent_part {E} sheet season question tree (Ok part) shown new known are = record {
+  shows = rw known (tree, shown, new, are);
   in_range = ap (list_all is_in_range) are
       ∙ marked_lines_in_range sheet season question tree shown.tree_spent.tests
       shown.tree_spent.reasons;
 }
+spent_part {E} sheet season question tree (Err stop) shown new known are = tt
 
 -- ---- questions on which the work is done
 

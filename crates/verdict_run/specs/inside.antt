@@ -10,4 +10,5 @@ pub mod SeasonReports
 pub mod Completeness
 pub mod SeasonAnswers
 pub mod TableLaws
+pub mod WorkLaws
 pub mod SamplePools

@@ -12,7 +12,7 @@ use crate::turns::finish;
 use branch_pool::{Example, Pool, QuestionState};
 use league_core::{Finish, Lots, OutOfMemory, Question, Season, Sheet};
 use std::alloc::Global;
-use tree_reuse::Tree;
+use tree_arena::Tree;
 
 /// What is found of a question from its root on. All splits and refuted leaves of the trees are
 /// new.

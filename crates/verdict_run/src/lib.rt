@@ -2,8 +2,9 @@
 //!
 //! `questions` has what is asked. Read `specs/inside/AskedQuestions.antt` first. `make_sample` has
 //! a league that a number gives, for those who want one of full size, and `count_sample` its words
-//! counted. That each question is decided, and that each season has an answer and a table, are
-//! laws (`completeness`, `season_answers`, `table_laws`).
+//! counted. That each question is decided, that each season has an answer and a table, and that
+//! turns of work are steps of the pool, are laws (`completeness`, `season_answers`, `table_laws`,
+//! `work_laws`).
 #![tactic(auto)]
 
 mod answer;
@@ -20,6 +21,7 @@ mod sample_pool;
 mod season_answers;
 mod table_laws;
 mod turns;
+mod work_laws;
 
 pub use answer::{joined, verdicts, word_of};
 pub use answer_rows::{Verdict, Word};
@@ -33,3 +35,4 @@ pub use sample::make_sample;
 pub use season_answers::{each_season_has_an_answer, items_need_no_proofs};
 pub use table_laws::each_season_has_a_table;
 pub use turns::finish;
+pub use work_laws::turns_are_steps;

@@ -8,7 +8,7 @@ ghost use Rattle.cert_text.specs.ExampleLines.{score_line_if, score_lines, examp
 use cert_text::{ClubList, ProofLine};
 use league_core::{Claim, Finish, Listing, Lots, OutOfMemory, Question, Score, Season, TreeNode};
 use std::alloc::Global;
-use tree_reuse::Tree;
+use tree_arena::Tree;
 
 /// A refutation of the claim under its head.
 pub(crate) fn refutation_lines(

@@ -21,7 +21,7 @@ use branch_pool::{Pool, QuestionState};
 use cert_text::ProofLine;
 use league_core::{Finish, Lots, OutOfMemory, Question, Season, Sheet, TreeNode};
 use std::alloc::Global;
-use tree_reuse::Tree;
+use tree_arena::Tree;
 
 /// How far a question is.
 #[derive(Clone, Copy)]
@@ -39,6 +39,42 @@ pub enum Known {
 pub struct Part {
     pub known: Known,
     pub lines: Vec<ProofLine>,
+}
+
+impl Part {
+    /// The part of an example, which is shown by its lines.
+    pub fn won(
+        alloc: Global,
+        sheet: &Sheet,
+        season: &Season,
+        question: &Question,
+        finish: &Finish,
+        lots: &Lots,
+    ) -> Result<Part, OutOfMemory>
+        requires league { IsLeague sheet.now season.now }
+        requires results { IsTrue (are_results season.now) }
+        requires example { IsExample sheet.now season.now question.now finish.now lots.now }
+        ensures part { IfOk result (IsAnswerPart sheet.now season.now question.now) }
+        ensures known { IfOk result (λ part. part.known ≡ Known.Won) }
+        ensures lines { IfOk result (λ part. part.lines.items
+            ≡ shown.example_lines question.now.claim season.now finish.now lots.now) }
+    {
+        let lines = example_lines(alloc, season, question.claim, finish, lots)?;
+        let known = Known::Won;
+        Ok(Part { known, lines })
+    }
+
+    /// The part of a tree on which the budget was spent.
+    pub fn spent(alloc: Global, question: &Question, tree: &Tree) -> Result<Part, OutOfMemory>
+        ensures known { IfOk result (λ part. part.known ≡ Known.Spent) }
+        ensures lines { IfOk result (λ part. part.lines.items
+            ≡ with_spent_head question.now.claim (marked_lines tree.now)) }
+    {
+        let nodes = tree.nodes()?;
+        let lines = spent_lines(alloc, question.claim, nodes.as_slice())?;
+        let known = Known::Spent;
+        Ok(Part { known, lines })
+    }
 }
 
 /// The part of the question at a place. A tree that is not all new is no part of an answer: if the
@@ -83,7 +119,7 @@ fn part_of_seat(
     ensures of_seat { IfOk result (IsOfSeat sheet.now season.now seat.now) }
 {
     match &seat.example {
-        Some(example) => won(
+        Some(example) => Part::won(
             alloc,
             sheet,
             season,
@@ -115,27 +151,6 @@ fn refuted_seat(
     }
 }
 
-fn won(
-    alloc: Global,
-    sheet: &Sheet,
-    season: &Season,
-    question: &Question,
-    finish: &Finish,
-    lots: &Lots,
-) -> Result<Part, OutOfMemory>
-    requires league { IsLeague sheet.now season.now }
-    requires results { IsTrue (are_results season.now) }
-    requires example { IsExample sheet.now season.now question.now finish.now lots.now }
-    ensures part { IfOk result (IsAnswerPart sheet.now season.now question.now) }
-    ensures known { IfOk result (λ part. part.known ≡ Known.Won) }
-    ensures lines { IfOk result (λ part. part.lines.items
-        ≡ shown.example_lines question.now.claim season.now finish.now lots.now) }
-{
-    let lines = example_lines(alloc, season, question.claim, finish, lots)?;
-    let known = Known::Won;
-    Ok(Part { known, lines })
-}
-
 fn refuted(
     alloc: Global,
     sheet: &Sheet,
@@ -151,25 +166,6 @@ fn refuted(
 {
     let lines = refutation_lines(alloc, question.claim, tree)?;
     let known = Known::Refuted;
-    Ok(Part { known, lines })
-}
-
-fn spent(
-    alloc: Global,
-    sheet: &Sheet,
-    season: &Season,
-    question: &Question,
-    tree: &Tree,
-) -> Result<Part, OutOfMemory>
-    requires spent { IsFairSpentTree sheet.now season.now question.now sheet.now.budget tree.now }
-    requires all_new { IsTrue (is_all_new tree.now) }
-    ensures part { IfOk result (IsAnswerPart sheet.now season.now question.now) }
-    ensures lines { IfOk result (λ part. part.lines.items
-        ≡ with_spent_head question.now.claim (marked_lines tree.now)) }
-{
-    let nodes = tree.nodes()?;
-    let lines = spent_lines(alloc, question.claim, nodes.as_slice())?;
-    let known = Known::Spent;
     Ok(Part { known, lines })
 }
 
@@ -189,12 +185,12 @@ fn spent_or_fresh(
         ≡ with_spent_head question.now.claim (marked_lines tree.now)) }
 {
     if all_new(tree)? {
-        return spent(alloc, sheet, season, question, tree);
+        return Part::spent(alloc, question, tree);
     }
     match solve_fresh(alloc, sheet, season, question)? {
-        Solved::Won(finish, lots) => won(alloc, sheet, season, question, &finish, &lots),
+        Solved::Won(finish, lots) => Part::won(alloc, sheet, season, question, &finish, &lots),
         Solved::Refuted(tree) => refuted(alloc, sheet, season, question, &tree),
-        Solved::Spent(tree) => spent(alloc, sheet, season, question, &tree),
+        Solved::Spent(tree) => Part::spent(alloc, question, &tree),
     }
 }
 

@@ -1,7 +1,6 @@
 -- Lemmas on steps, on what a call for one answers, and on a round of them.
 pub mod StepLemmas
 pub mod StepCallLemmas
-pub mod StepRoundLemmas
 pub mod WorkedSteps
 -- Bases, zones below them, and work on a question; parts, verdicts and texts of an answer.
 pub mod BaseFinishLemmas

@@ -2,24 +2,25 @@
 use Rattle.std.proofs.Common.{◌≡◌, ℕ, Bool, true, false, not, ◌==◌, List, length, Option, None}
 use Rattle.std.proofs.Common.{Some, if◌then◌else◌, Result, Ok, Err, refl, sym, ap, ◌∙◌, subst}
 use Rattle.std.proofs.Common.{arith}
-use Rattle.std.specs.Prelude.{IfSome}
+use Rattle.std.specs.Prelude.{IfOk, IfSome}
 use Rattle.std.proofs.lemmas.Bool.{not-false}
 use Rattle.league_core.specs.declared.sheet.Sheet.{Sheet}
 use Rattle.league_core.specs.game.Results.{Results}
 use Rattle.league_core.specs.game.Seasons.{IsSeasonOf}
 use Rattle.fixture_sheet.specs.Fields.{field, has_return, record_of}
 use Rattle.result_log.specs.declared.entry.Entry.{Entry}
-use Rattle.result_log.specs.declared.entry.Entry.TheVariants.{Ask, End}
+use Rattle.result_log.specs.declared.entry.Entry.TheVariants.{Ask}
 use Rattle.result_log.specs.declared.fault.FeedFault.{FeedFault}
 use Rattle.result_log.specs.declared.fault.FeedFault.TheVariants.{UnknownRecord, WrongWidth}
 use Rattle.result_log.specs.declared.fault.FeedFault.TheVariants.{UnknownFixture, AlreadyPlayed}
 use Rattle.result_log.specs.Records.{entry_of, fixture_in, has_fixture, has_result, value_unless}
-use Rattle.result_log.specs.Feeds.{entry_if, entry_in, given}
-use Rattle.result_log.proofs.RecordLemmas.{entry_is_no_end, entry_may_come, range-within}
+use Rattle.result_log.specs.inside.Readings.{MayBeTold}
+use Rattle.result_log.specs.Feeds.{entry_in, given, parsed_if}
+use Rattle.result_log.proofs.RecordLemmas.{entry_may_come, range-within}
 use Rattle.what_if.specs.declared.step.Step.{Step}
 use Rattle.what_if.specs.declared.step.Step.TheVariants as step
 use Rattle.what_if.specs.Steps.{about_if, about_of, entry_step, forget, forgotten, is_when}
-use Rattle.what_if.specs.Steps.{step_given, step_if, step_in, step_line, step_of, when_tests}
+use Rattle.what_if.specs.Steps.{step_in, step_line, step_of, when_tests}
 use Rattle.what_if.specs.inside.StepCalls.{IsStepAt, IsUnplayedFixture}
 use Rattle.league_core.proofs.plain.Options.{none_there}
 
@@ -70,7 +71,6 @@ record IsStepOf (sheet : Sheet) (season : Results) (events : ℕ) (fields : List
     (asks : Bool) (found : Step) : Type 0 where
   may_come : IsSeasonOf sheet season → IsStepAt sheet season events found
   about : (if asks then Some (fixture_in fields) else None) ≡ step_about found
-  no_end : forget found ≡ End → ⊥
 
 step-known : (sheet : Sheet) (season : Results) (events : ℕ) (fields : List (List ℕ))
     (asks : Bool) (found : Step)
@@ -82,7 +82,6 @@ step-known sheet season events fields true found told =
     record {
       may_come = λ of_sheet. subst (IsStepAt sheet season events) (sym known.0) known.1;
       about = ap step_about (sym known.0);
-      no_end = λ end. let asked : Ask ≡ End = sym (ap forget known.0) ∙ end in cc;
     }
 step-known sheet season events fields false found told =
     let known = entry-back (entry_of sheet season events false fields) found told in
@@ -90,13 +89,20 @@ step-known sheet season events fields false found told =
       may_come = λ of_sheet. subst (IsStepAt sheet season events) (sym known.1)
           (entry_may_come sheet season events false fields known.0 of_sheet known.2);
       about = ap step_about (sym known.1);
-      no_end = λ end. entry_is_no_end sheet season events false fields
-          (known.2 ∙ ap Ok (sym (ap forget known.1) ∙ end));
     }
+
+-- an ask may be told
+pub asked-may_be_told : {E : Type 0} (season : Results) (events : ℕ) (result : Result Step E)
+    → IfOk result (λ found. forget found ≡ Ask)
+    → IfOk result (λ found. MayBeTold season events (forget found))
+asked-may_be_told {E} season events (Ok (step.When fixture)) asks = tt
+asked-may_be_told {E} season events (Ok (step.Entry entry)) asks =
+    subst (MayBeTold season events) (sym asks) tt
+asked-may_be_told {E} season events (Err stop) asks = tt
 
 -- ---- one line
 
-given-back : (told : Result Step FeedFault) (found : Step) → step_given told ≡ Ok (Some found)
+given-back : (told : Result Step FeedFault) (found : Step) → given told ≡ Ok (Some found)
     → told ≡ Ok found
 given-back (Ok other) found is = cc
 given-back (Err fault) found is = cc
@@ -111,7 +117,8 @@ record HasRecord (sheet : Sheet) (season : Results) (events : ℕ) (returns : Bo
 
 has-record : (sheet : Sheet) (season : Results) (events : ℕ) (returns : Bool)
     (line : Option (List (List ℕ))) (found : Step)
-    → (if returns then Err UnknownRecord else step_if sheet season events line) ≡ Ok (Some found)
+    → (if returns then Err UnknownRecord else parsed_if (step_of sheet season events) line)
+    ≡ Ok (Some found)
     → HasRecord sheet season events returns line found
 has-record sheet season events true line found told = cc
 has-record sheet season events false None found told = cc
@@ -157,12 +164,6 @@ module _ (sheet : Sheet) (season : Results) (events : ℕ) (content : List ℕ) 
   forgotten-back (Ok (Some found)) entry is = (found, refl, cc)
   forgotten-back (Err fault) entry is = cc
 
-  -- no content of a line is the end of the input
-  pub line-no_end : step_line sheet season events content ≡ Ok (Some End) → ⊥
-  line-no_end told =
-      let back = forgotten-back (step_in sheet season events content) End told in
-      (line-known back.0 back.1).2.no_end back.2
-
   asked-unplayed : (found : Step) → IsStepAt sheet season events found
       → IfSome (step_about found) (IsUnplayedFixture sheet season)
   asked-unplayed (step.Entry entry) may_come = tt
@@ -180,13 +181,13 @@ module _ (sheet : Sheet) (season : Results) (events : ℕ) (content : List ℕ) 
 
 -- ---- a line that asks about no fixture
 
-entry-same : (told : Result Entry FeedFault) → forgotten (step_given (entry_step told)) ≡ given told
+entry-same : (told : Result Entry FeedFault) → forgotten (given (entry_step told)) ≡ given told
 entry-same (Ok entry) = refl
 entry-same (Err fault) = refl
 
 record-same : (sheet : Sheet) (season : Results) (events : ℕ) (fields : List (List ℕ))
     (asks : Bool) → (if asks then Some (fixture_in fields) else None) ≡ None
-    → forgotten (step_given
+    → forgotten (given
     (if asks then value_unless (when_tests sheet season fields) (step.When (fixture_in fields))
     else entry_step (entry_of sheet season events false fields)))
     ≡ given (entry_of sheet season events false fields)
@@ -196,8 +197,9 @@ record-same sheet season events fields false no_one =
 
 line-same : (sheet : Sheet) (season : Results) (events : ℕ) (returns : Bool)
     (line : Option (List (List ℕ))) → (if returns then None else about_if line) ≡ None
-    → forgotten (if returns then Err UnknownRecord else step_if sheet season events line)
-    ≡ (if returns then Err UnknownRecord else entry_if sheet season events false line)
+    → forgotten (if returns then Err UnknownRecord
+    else parsed_if (step_of sheet season events) line)
+    ≡ (if returns then Err UnknownRecord else parsed_if (entry_of sheet season events false) line)
 line-same sheet season events true line no_one = refl
 line-same sheet season events false None no_one = refl
 line-same sheet season events false (Some fields) no_one =

@@ -2,15 +2,16 @@
 -- would decide, which must have no score yet. Every other record is read as in every feed that no
 -- proofs follow. Fields count from 0 here, and fixtures too, which a feed counts from 1.
 use Rattle.std.specs.Prelude.{ℕ, Bool, false, not, ◌==◌, List, [], ◌∷◌, length, Option, None, Some}
-use Rattle.std.specs.Prelude.{option_map, Result, Ok, Err, if◌then◌else◌, bytes_eq, codes}
+use Rattle.std.specs.Prelude.{Result, Ok, Err, if◌then◌else◌, bytes_eq, codes}
 use Rattle.league_core.specs.declared.sheet.Sheet.{Sheet}
 use Rattle.league_core.specs.game.Results.{Results}
 use Rattle.fixture_sheet.specs.Fields.{field, has_return, record_of}
 use Rattle.result_log.specs.declared.entry.Entry.{Entry}
 use Rattle.result_log.specs.declared.entry.Entry.TheVariants.{Ask}
 use Rattle.result_log.specs.declared.fault.FeedFault.{FeedFault}
-use Rattle.result_log.specs.declared.fault.FeedFault.TheVariants.{UnknownRecord, WrongWidth}
+use Rattle.result_log.specs.declared.fault.FeedFault.TheVariants.{WrongWidth}
 use Rattle.result_log.specs.declared.fault.FeedFault.TheVariants.{UnknownFixture, AlreadyPlayed}
+use Rattle.result_log.specs.Feeds.{found_as, line_as, parsed_in}
 use Rattle.result_log.specs.Records.{entry_of, fixture_in, has_fixture, has_result, value_unless}
 use Rattle.what_if.specs.declared.step.Step.{Step}
 use Rattle.what_if.specs.declared.step.Step.TheVariants as step
@@ -43,22 +44,9 @@ step_of sheet season events fields =
 
 -- ---- one line
 
--- a step that is there, or the refusal
-abbrev pub step_given : Result Step FeedFault → Result (Option Step) FeedFault
-step_given (Ok found) = Ok (Some found)
-step_given (Err fault) = Err fault
-
--- the step that a line's record is, if a field is left of the line
-abbrev pub step_if :
-    Sheet → Results → ℕ → Option (List (List ℕ)) → Result (Option Step) FeedFault
-step_if sheet season events None = Ok None
-step_if sheet season events (Some fields) = step_given (step_of sheet season events fields)
-
--- the step that the content of a line is: a CR in it makes it no record
+-- the step that the content of a line is
 abbrev pub step_in : Sheet → Results → ℕ → List ℕ → Result (Option Step) FeedFault
-step_in sheet season events content =
-    if has_return content then Err UnknownRecord
-    else step_if sheet season events (record_of content)
+step_in sheet season events content = parsed_in (step_of sheet season events) content
 
 -- ---- the same as an entry, and what it asks about
 
@@ -69,12 +57,11 @@ forget (step.When fixture) = Ask
 
 -- a line's step as its entry
 abbrev pub forgotten : Result (Option Step) FeedFault → Result (Option Entry) FeedFault
-forgotten (Ok found) = Ok (option_map forget found)
-forgotten (Err fault) = Err fault
+forgotten found = found_as forget found
 
 -- the entry that the content of a line is, where `when` asks too
 abbrev pub step_line : Sheet → Results → ℕ → List ℕ → Result (Option Entry) FeedFault
-step_line sheet season events content = forgotten (step_in sheet season events content)
+step_line sheet season events content = line_as forget (step_of sheet season events) content
 
 -- the fixture of a line's record, if that is a `when`
 abbrev pub about_if : Option (List (List ℕ)) → Option ℕ

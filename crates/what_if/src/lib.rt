@@ -11,7 +11,6 @@ mod laws;
 mod literals;
 mod outcome;
 mod part;
-mod round;
 mod row;
 mod season_part;
 mod step;
@@ -26,8 +25,7 @@ pub use laws::{
     outcomes_are_bases,
 };
 pub use outcome::{Outcome, base_zone};
-pub use round::{StepEnd, StepRound, read_steps};
-pub use step::Step;
+pub use step::{Step, Steps};
 pub use step_laws::{lines_ask_about_unplayed_fixtures, other_lines_are_read_as_in_every_feed};
 pub use step_reader::next_step;
 pub use when::put_when;

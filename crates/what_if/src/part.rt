@@ -1,9 +1,7 @@
 //! What stands for one question given a base.
 
-ghost use Rattle.std.specs.Prelude.{◌≡◌, ◌<◌, [], IfOk, length};
+ghost use Rattle.std.specs.Prelude.{◌≡◌, [], IfOk};
 ghost use Rattle.league_core.specs.game.Questions.{IsExample, IsQuestionOf};
-ghost use Rattle.cert_text.specs.TreeLines.{marked_lines, with_spent_head};
-ghost use Rattle.cert_text.specs.ExampleLines as shown;
 ghost use Rattle.what_if.specs.inside.GivenParts.{IsAnswerPartGiven, IsBaseIn};
 
 use crate::hints::Hints;
@@ -13,10 +11,9 @@ use crate::season_part::InSeason;
 use crate::task::solve_given;
 use branch_pool::Example;
 use branch_rules::ZoneSolver;
-use league_core::{Finish, Literal, Lots, OutOfMemory, Question, Season};
+use league_core::{Literal, OutOfMemory, Question};
 use std::alloc::Global;
-use tree_reuse::Tree;
-use verdict_run::{Known, Part, Solved, example_lines, spent_lines};
+use verdict_run::{Known, Part, Solved};
 
 /// The part of a question, worked on from its root on, below the base: an example that is a member
 /// of the base, or the tree on which the budget was spent. No line shows that it holds nowhere.
@@ -64,11 +61,11 @@ fn part_by(
     ensures same_sheet { solver.new.sheet ≡ solver.old.sheet }
     ensures same_season { solver.new.season ≡ solver.old.season }
 {
-    let (_sheet, season) = (stage.sheet(), stage.season());
+    let (sheet, season) = (stage.sheet(), stage.season());
     let _scores = season.scores();
     let Example { finish, lots } = example;
     if are_true(base, finish.as_season()) {
-        won(alloc, season, question, finish, lots)
+        Part::won(alloc, sheet, season, question, finish, lots)
     } else {
         worked(alloc, stage, solver, question, base, Some(example))
     }
@@ -92,34 +89,16 @@ fn worked(
     ensures same_sheet { solver.new.sheet ≡ solver.old.sheet }
     ensures same_season { solver.new.season ≡ solver.old.season }
 {
-    let budget = stage.sheet().budget;
-    let season = stage.season();
+    let (sheet, season) = (stage.sheet(), stage.season());
+    let budget = sheet.budget;
     let _scores = season.scores();
     let played = stage.played();
     let hints = Hints { played, example };
     match solve_given(alloc, solver, question, base, &hints, budget)? {
-        Solved::Won(finish, lots) => won(alloc, season, question, &finish, &lots),
+        Solved::Won(finish, lots) => Part::won(alloc, sheet, season, question, &finish, &lots),
         Solved::Refuted(_) => Ok(refuted(alloc)),
-        Solved::Spent(tree) => spent(alloc, question, &tree),
+        Solved::Spent(tree) => Part::spent(alloc, question, &tree),
     }
-}
-
-fn won(
-    alloc: Global,
-    season: &Season,
-    question: &Question,
-    finish: &Finish,
-    lots: &Lots,
-) -> Result<Part, OutOfMemory>
-    requires same { length finish.now.scores ≡ length season.now.scores }
-    requires few { length season.now.scores < 65536 }
-    ensures known { IfOk result (λ part. part.known ≡ Known.Won) }
-    ensures lines { IfOk result (λ part. part.lines.items
-        ≡ shown.example_lines question.now.claim season.now finish.now lots.now) }
-{
-    let lines = example_lines(alloc, season, question.claim, finish, lots)?;
-    let known = Known::Won;
-    Ok(Part { known, lines })
 }
 
 fn refuted(alloc: Global) -> Part
@@ -129,15 +108,4 @@ fn refuted(alloc: Global) -> Part
     let lines = Vec::new(alloc);
     let known = Known::Refuted;
     Part { known, lines }
-}
-
-fn spent(alloc: Global, question: &Question, tree: &Tree) -> Result<Part, OutOfMemory>
-    ensures known { IfOk result (λ part. part.known ≡ Known.Spent) }
-    ensures lines { IfOk result (λ part. part.lines.items
-        ≡ with_spent_head question.now.claim (marked_lines tree.now)) }
-{
-    let nodes = tree.nodes()?;
-    let lines = spent_lines(alloc, question.claim, nodes.as_slice())?;
-    let known = Known::Spent;
-    Ok(Part { known, lines })
 }

@@ -1,21 +1,19 @@
 //! The next step of an input.
 
-ghost use Rattle.std.specs.Prelude.{◌≡◌, ◌≤◌, IfOk, IfSome, length, option_map};
+ghost use Rattle.std.specs.Prelude.{◌≤◌, IfOk, length};
 ghost use Rattle.league_core.specs.game.Seasons.{IsSeasonOf};
 ghost use Rattle.port_core.specs.Readers.{TakesInput, contents_to_come};
-ghost use Rattle.port_core.specs.inside.ReaderCalls.{LeavesReader, PassesTo, given_by};
-ghost use Rattle.result_log.specs.inside.Calls.{ComesThere, PassesToEntry, CountsEntry};
-ghost use Rattle.result_log.specs.inside.Calls.{CountsRecord, MovesToEntry, MovesToRecord};
-ghost use Rattle.result_log.specs.inside.Calls.{ReadsEntry, ReadsRecord, answer_there};
-ghost use Rattle.result_log.specs.inside.Calls.{entry_answer_after};
-ghost use Rattle.result_log.specs.inside.LastReads.{StopsAtEntry, StopsAtRecord};
+ghost use Rattle.port_core.specs.inside.ReaderCalls.{LeavesReader};
+ghost use Rattle.result_log.specs.inside.Calls.{CountsEntry, MovesToEntry, PassesToEntry};
+ghost use Rattle.result_log.specs.inside.Calls.{ReadsEntry, entry_answer_after};
+ghost use Rattle.result_log.specs.inside.LastReads.{StopsAtEntry};
 ghost use Rattle.what_if.specs.Steps.{step_line};
 ghost use Rattle.what_if.specs.inside.StepCalls.{IsStepAt, IsStepThere, forgotten_answer};
 
-use crate::step::{Step, step_at};
+use crate::step::{Step, Steps};
 use league_core::{Season, Sheet};
-use port_core::{Line, LineReader, Source};
-use result_log::{Entry, FeedStop};
+use port_core::{LineReader, Source};
+use result_log::{FeedStop, SeasonSoFar, next_parsed};
 use std::alloc::Global;
 
 /// Reads on to the next record, and gives its step, or the first refusal of that line. Lines whose
@@ -56,48 +54,10 @@ pub fn next_step<S: Source>(
     ensures cause { CountsEntry (S.faults source.old) (S.faults source.new)
         (forgotten_answer result) }
 {
-    'records: loop {
-        if let Some(result) = take_line(alloc, sheet, season, events, reader, source) {
-            return result;
-        }
-    }
-}
-
-// What the next line is, or none if no field is left of it.
-fn take_line<S: Source>(
-    alloc: Global,
-    sheet: &Sheet,
-    season: &Season,
-    events: u64,
-    reader: &mut LineReader,
-    source: &mut S,
-) -> Option<Result<Step, FeedStop>>
-    requires of_sheet { IsSeasonOf sheet.now season.now }
-    requires clubs { length sheet.now.clubs ≤ 255 }
-    requires numbers { length sheet.now.fixtures ≤ 65535 }
-    ensures reads { ReadsRecord (step_line sheet.now season.now events)
-        (contents_to_come reader.old (S.left source.old))
-        (contents_to_come reader.new (S.left source.new))
-        (option_map forgotten_answer result) }
-    ensures step { IfSome result (IsStepThere sheet.now season.now events reader.new.text) }
-    ensures passes { PassesTo reader.old reader.new (S.left source.old) (S.left source.new)
-        (S.ended source.old) (S.ended source.new)
-        (given_by (answer_there reader.new (option_map forgotten_answer result))
-        reader.new.text) }
-    ensures comes { ComesThere (step_line sheet.now season.now events) reader.new.text
-        (option_map forgotten_answer result) }
-    ensures leaves { LeavesReader reader.new (S.left source.new)
-        (answer_there reader.new (option_map forgotten_answer result)) }
-    ensures takes { TakesInput reader.old reader.new (S.left source.old) (S.left source.new) }
-    ensures moves { MovesToRecord reader.old reader.new (option_map forgotten_answer result) }
-    ensures last { StopsAtRecord S.left S.reads reader.old reader.new source.old source.new
-        (option_map forgotten_answer result) }
-    ensures cause { CountsRecord (S.faults source.old) (S.faults source.new)
-        (option_map forgotten_answer result) }
-{
-    match reader.next(source) {
-        Ok(Line::Text { number }) => step_at(alloc, sheet, season, events, number, reader.text()),
-        Ok(Line::End { number: _ }) => Some(Ok(Step::Entry(Entry::End))),
-        Err(stop) => Some(Err(FeedStop::Read(stop))),
-    }
+    let at = SeasonSoFar {
+        sheet,
+        season,
+        events,
+    };
+    next_parsed(alloc, &Steps, &at, reader, source)
 }

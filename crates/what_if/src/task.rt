@@ -15,7 +15,7 @@ use branch_rules::ZoneSolver;
 use league_core::{Literal, OutOfMemory, Question};
 use reason_core::{Finding, Solver};
 use std::alloc::Global;
-use tree_reuse::Tree;
+use tree_arena::Tree;
 use verdict_run::Solved;
 
 /// How far a question is taken apart, and how many units that took.

@@ -11,6 +11,7 @@ mod feeder_state;
 mod gate;
 mod idle_source;
 mod next;
+mod parsed_round;
 mod piece;
 mod plain;
 mod round;
@@ -21,6 +22,7 @@ mod threads;
 mod worker;
 
 pub use gate::{Gate, OpenGate, Point};
+pub use parsed_round::{ParsedRound, end_of, read_parsed};
 pub use plain::read_round;
 pub use round::{Round, RoundEnd};
 pub use threads::run_round;

@@ -35,11 +35,25 @@ pub fn find_at<J: Job, R: Wait, G: Gate, W: Solver>(
         &ticket.piece.question,
         ticket.piece.zone.literals.as_slice(),
     )?;
+    Ok(if_present(crew, badge, worker, ticket, found))
+}
+
+// What was found, or nothing if the season has moved on by the end of the work.
+fn if_present<J: Job, R: Wait, G: Gate>(
+    crew: &Crew<J, R, G>,
+    badge: &mut WorkBadge<J>,
+    worker: WorkerId,
+    ticket: &Ticket,
+    found: Finding,
+) -> Option<Finding>
+    ensures found { IfSome result (λ kept. kept ≡ found) }
+    ensures seen { badge.new.list ≡ badge.old.list }
+{
     crew.gate.at(Point::Worked, worker.number);
     if crew.lock.cancelled(badge, ticket.epoch).is_some() {
-        return Ok(None);
+        return None;
     }
-    Ok(Some(found))
+    Some(found)
 }
 
 /// Gives the ticket back undone.

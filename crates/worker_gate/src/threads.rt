@@ -22,7 +22,7 @@ use crate::slots::{WorkerSlot, run_all, worker_slots};
 use crate::start::Start;
 use branch_pool::Pool;
 use league_core::{OutOfMemory, Sheet};
-use pool_lock::{Job, PoolLock};
+use pool_lock::{Front, Job, PoolLock, WorkBadge};
 use port_core::{LineReader, Source};
 use std::alloc::Global;
 use std::marker::Brand;
@@ -130,6 +130,29 @@ fn begin<J: Job>(
         IsSeasonReported J.sheet begun.1.front begun.1.season begun.1.events) }
     ensures limits { IfOk result (λ begun. IsWithinLimits start.entry.pool.sheet) }
 {
+    let season = start.pool.season().copy(alloc)?;
+    let events = start.pool.log().len() as u64;
+    let (lock, front, badges) = lock_of::<J>(alloc, start)?;
+    let feeder = FeederState {
+        front,
+        season,
+        events,
+        is_shut: false,
+    };
+    let slots = worker_slots(alloc, badges)?;
+    Ok((lock, feeder, slots))
+}
+
+// The lock round the pool, its front, and a badge for each worker.
+fn lock_of<J: Job>(
+    alloc: Global,
+    start: Start,
+) -> Result<(PoolLock<J>, Front<J>, Vec<WorkBadge<J>>), OutOfMemory>
+    requires ready { IsStartReady start }
+    requires word { start.word ≡ J.table }
+    requires job { IsJobOf J.name J.parts J.sheet J.questions start }
+    ensures front { IfOk result (λ made. made.1 ≡ start.entry.pool.log) }
+{
     let Start {
         sheet: _,
         pool,
@@ -139,17 +162,7 @@ fn begin<J: Job>(
         eyes,
         blank,
     } = start;
-    let season = pool.season().copy(alloc)?;
-    let events = pool.log().len() as u64;
-    let (lock, front, badges) = PoolLock::<J>::new(alloc, blank, word, owner, front, eyes, pool)?;
-    let slots = worker_slots(alloc, badges)?;
-    let feeder = FeederState {
-        front,
-        season,
-        events,
-        is_shut: false,
-    };
-    Ok((lock, feeder, slots))
+    PoolLock::new(alloc, blank, word, owner, front, eyes, pool)
 }
 
 // The feeder reads beside the workers, and before them if no thread can be made: they wait for it.

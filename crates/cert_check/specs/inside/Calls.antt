@@ -6,7 +6,6 @@ use Rattle.std.specs.Prelude.{◌++◌, ◌*◌, length, take, drop, Result, Ok,
 use Rattle.std.specs.Prelude.{None, if◌then◌else◌}
 use Rattle.league_core.specs.declared.tree.TreeNode.{TreeNode}
 use Rattle.league_core.specs.declared.question.Question.{Question}
-use Rattle.league_core.specs.declared.zone.Literal.{Literal}
 use Rattle.league_core.specs.declared.sheet.Sheet.{Sheet}
 use Rattle.league_core.specs.game.Results.{Results}
 use Rattle.league_core.specs.game.Seasons.{IsLeague}

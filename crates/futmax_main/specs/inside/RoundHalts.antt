@@ -5,11 +5,11 @@ use Rattle.result_log.specs.inside.LastReads.{GivesEvents, StopsAtClose}
 use Rattle.result_log.specs.inside.Rounds.{EndsRound, Spot}
 use Rattle.branch_pool.specs.inside.States.{PoolView}
 use Rattle.worker_gate.specs.declared.round.Round.{Round}
+use Rattle.worker_gate.specs.declared.round.RoundEnd.{RoundEnd}
 use Rattle.worker_gate.specs.inside.Rounds.{close_of}
-use Rattle.what_if.specs.declared.round.StepRound.{StepRound}
 use Rattle.command_words.specs.declared.command.Mode.{Mode}
 use Rattle.futmax_main.specs.declared.halting.Halt.{Halt}
-use Rattle.futmax_main.specs.inside.Halts.{IsAboutAt, IsAskable, about_at, round_end_of}
+use Rattle.futmax_main.specs.inside.Halts.{IsAboutAt, IsAskable}
 use Rattle.futmax_main.specs.inside.Progress.{line_after}
 use Rattle.futmax_main.specs.inside.Turns.{IsLive}
 
@@ -17,10 +17,9 @@ use Rattle.futmax_main.specs.inside.Turns.{IsLive}
 abbrev pub halt_of : Round → Halt
 halt_of round = record { pool = round.pool; end = round.end; about = None }
 
--- where a round of steps halts
-abbrev pub halt_of_steps : StepRound → Halt
-halt_of_steps round =
-    record { pool = round.pool; end = round_end_of round.end; about = about_at round.end }
+-- where a round of steps halts that ended so
+abbrev pub halt_at : PoolView → RoundEnd → Option ℕ → Halt
+halt_at pool end about = record { pool = pool; end = end; about = about }
 
 -- a round of the mode, over this pool, from one spot and state of the source to another, halts so:
 -- the pool is live and of the same sheet, the log has grown by what the lines passed report, what

@@ -1,19 +1,18 @@
 -- Saved texts: trees of the questions about a sheet as lines. An item is the row of its question
 -- and its tree's nodes as proof lines; the items stand in the order of the questions, and the line
 -- `saved_end` comes behind them. The form is this project's own.
-use Rattle.std.specs.Prelude.{◌≡◌, ℕ, Bool, false, not, ◌&&◌, IsTrue, IfSome, List, [], ◌∷◌, ◌++◌}
+use Rattle.std.specs.Prelude.{◌≡◌, ℕ, Bool, true, false, IsTrue, IfSome, List, [], ◌∷◌, ◌++◌}
 use Rattle.std.specs.Prelude.{map, Option, Some, None, codes, decimal}
 use Rattle.league_core.specs.declared.sheet.Sheet.{Sheet}
 use Rattle.league_core.specs.declared.question.Question.{Question}
-use Rattle.league_core.specs.declared.zone.Test.{Test}
-use Rattle.league_core.specs.declared.zone.Test.TheVariants.{Home, Draw, HomeMost, AwayMost, Rival}
 use Rattle.league_core.specs.declared.zone.Literal.{Literal}
 use Rattle.league_core.specs.declared.tree.TreeNode.{TreeNode}
 use Rattle.league_core.specs.declared.tree.TreeNode.TheVariants.{Split, Open, Lent, Refuted}
-use Rattle.league_core.specs.search.Zones.{is_marked}
 use Rattle.league_core.specs.search.Trees.{Tree, NodesMeet}
+use Rattle.tree_reuse.specs.inside.Asked.{IsAskedNode, IsAskedTree}
 use Rattle.cert_text.specs.Lines.{claim_word}
-use Rattle.cert_text.specs.TreeLines.{marked_lines, is_test_for}
+use Rattle.cert_text.specs.Ranges.{is_test_in_range}
+use Rattle.cert_text.specs.TreeLines.{marked_lines}
 use Rattle.cert_check.specs.declared.token.Token.{Token}
 use Rattle.cert_check.specs.declared.token.Token.TheVariants.{Row, Proof}
 use Rattle.cert_check.specs.Tokens.{counted_lines}
@@ -21,35 +20,47 @@ use Rattle.cert_check.specs.ExpectedItems.{name_of_club, is_reason_for}
 
 -- ---- trees
 
--- the test is of a rival that the zone marks
-abbrev pub asks_again : List Literal → Test → Bool
-asks_again zone (Home fixture) = false
-asks_again zone (Draw fixture) = false
-asks_again zone (HomeMost fixture most) = false
-asks_again zone (AwayMost fixture most) = false
-asks_again zone (Rival club) = is_marked zone club
+-- the numbers of the node are such as a report's lines have them for the question; a leaf that is
+-- lent has no line
+abbrev pub is_node_for : Sheet → Question → TreeNode → Bool
+is_node_for sheet question (Split test fresh) = is_test_in_range test
+is_node_for sheet question Open = true
+is_node_for sheet question (Lent number) = false
+is_node_for sheet question (Refuted reason fresh) = is_reason_for sheet question reason
 
--- a node of a saved tree: a split by a test as a report's lines have it for the question, but of no
--- rival that its zone marks; a leaf with a reason as they have it; or an open leaf
+-- a node of a saved tree: one of a tree that the question may go on from, as a report's lines
+-- have it
 abbrev pub IsSavedNode : Sheet → Question → List Literal → TreeNode → Type 0
-IsSavedNode sheet question zone (Split test fresh) =
-    IsTrue (is_test_for sheet question test && not (asks_again zone test))
-IsSavedNode sheet question zone Open = Unit {0}
-IsSavedNode sheet question zone (Lent number) = ⊥
-IsSavedNode sheet question zone (Refuted reason fresh) =
-    IsTrue (is_reason_for sheet question reason)
+IsSavedNode sheet question zone node =
+    IsAskedNode sheet question zone node × IsTrue (is_node_for sheet question node)
 
 -- each node of the tree is one
 abbrev pub IsSavedTree : Sheet → Question → Tree → Type 0
 IsSavedTree sheet question tree = NodesMeet (IsSavedNode sheet question) [] tree
 
--- a tree or none for each question
+-- a tree or none for each question, each of which is such for its question
+abbrev pub AreTreesOf : (Question → Tree → Type 0) → List Question → List (Option Tree) → Type 0
+AreTreesOf IsFor [] [] = Unit {0}
+AreTreesOf IsFor [] (tree ∷ trees) = ⊥
+AreTreesOf IsFor (question ∷ asked) [] = ⊥
+AreTreesOf IsFor (question ∷ asked) (tree ∷ trees) =
+    IfSome tree (IsFor question) × AreTreesOf IsFor asked trees
+
+-- the same for each of the first questions, so far as there are trees
+abbrev pub AreFirstTreesOf : (Question → Tree → Type 0) → List Question → List (Option Tree)
+    → Type 0
+AreFirstTreesOf IsFor asked [] = Unit {0}
+AreFirstTreesOf IsFor [] (tree ∷ trees) = ⊥
+AreFirstTreesOf IsFor (question ∷ asked) (tree ∷ trees) =
+    IfSome tree (IsFor question) × AreFirstTreesOf IsFor asked trees
+
+-- trees as a saved text has them
 abbrev pub AreSavedTrees : Sheet → List Question → List (Option Tree) → Type 0
-AreSavedTrees sheet [] [] = Unit {0}
-AreSavedTrees sheet [] (tree ∷ trees) = ⊥
-AreSavedTrees sheet (question ∷ asked) [] = ⊥
-AreSavedTrees sheet (question ∷ asked) (tree ∷ trees) =
-    IfSome tree (IsSavedTree sheet question) × AreSavedTrees sheet asked trees
+AreSavedTrees sheet asked trees = AreTreesOf (IsSavedTree sheet) asked trees
+
+-- trees that the questions may go on from
+abbrev pub AreAskedTrees : Sheet → List Question → List (Option Tree) → Type 0
+AreAskedTrees sheet asked trees = AreTreesOf (IsAskedTree sheet) asked trees
 
 -- ---- lines
 

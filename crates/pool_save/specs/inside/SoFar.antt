@@ -1,6 +1,6 @@
 -- What holds of a saved text as far as it is read: its trees are those of the first questions, and
 -- whatever trees come for the parts of the next one's, with them its nodes are those of a tree.
-use Rattle.std.specs.Prelude.{◌≡◌, ◌<◌, ℕ, List, [], ◌∷◌, ◌++◌, length, Option, Some, None, IfSome}
+use Rattle.std.specs.Prelude.{◌≡◌, ◌<◌, ℕ, List, [], ◌∷◌, ◌++◌, length, Option, Some, None}
 use Rattle.std.specs.List.{slice_get}
 use Rattle.league_core.specs.declared.sheet.Sheet.{Sheet}
 use Rattle.league_core.specs.declared.question.Question.{Question}
@@ -13,7 +13,7 @@ use Rattle.league_core.specs.search.Trees.{Tree, NodesMeet, preorder}
 use Rattle.league_core.specs.inside.TreeLists.{preorders}
 use Rattle.pool_save.specs.declared.so_far.Taken.{Taken}
 use Rattle.pool_save.specs.declared.so_far.Taken.TheVariants.{On, Whole, Bad}
-use Rattle.pool_save.specs.inside.SavedTexts.{IsSavedNode, IsSavedTree}
+use Rattle.pool_save.specs.inside.SavedTexts.{IsSavedNode, IsSavedTree, AreFirstTreesOf}
 use Rattle.pool_save.specs.inside.SavedReadings.{SaveState, SaveStep, goes_on, whole, bad}
 
 -- what a call made of a line, by what it returned and what it left
@@ -52,14 +52,7 @@ IsItemSoFar sheet None nodes (rivals ∷ due) = ⊥
 IsItemSoFar sheet (Some question) nodes (rivals ∷ due) =
     IsDrafted sheet question nodes (rivals ∷ due)
 
--- a tree or none for each of the first questions
-abbrev pub AreFirstTrees : Sheet → List Question → List (Option Tree) → Type 0
-AreFirstTrees sheet asked [] = Unit {0}
-AreFirstTrees sheet [] (tree ∷ trees) = ⊥
-AreFirstTrees sheet (question ∷ asked) (tree ∷ trees) =
-    IfSome tree (IsSavedTree sheet question) × AreFirstTrees sheet asked trees
-
 -- a saved text as far as it is read
 pub record IsSaveState (sheet : Sheet) (asked : List Question) (state : SaveState) : Type 0 where
-  pub first : AreFirstTrees sheet asked state.trees
+  pub first : AreFirstTreesOf (IsSavedTree sheet) asked state.trees
   pub item : IsItemSoFar sheet (slice_get asked (length state.trees)) state.nodes state.due

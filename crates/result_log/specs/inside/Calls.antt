@@ -22,17 +22,17 @@ use Rattle.result_log.specs.inside.FeedParts.{LineEntry, entry_reading_of}
 -- ---- one line
 
 -- the answer is what the content is, or memory ran out
-abbrev pub AnswersContent :
-    Result (Option Entry) FeedFault → Result (Option Entry) ContentStop → Type 0
+abbrev pub AnswersContent : {T : Type 0}
+    → Result (Option T) FeedFault → Result (Option T) ContentStop → Type 0
 AnswersContent wanted (Ok found) = wanted ≡ Ok found
 AnswersContent wanted (Err (content_stop.Fault fault)) = wanted ≡ Err fault
 AnswersContent wanted (Err content_stop.OutOfMemory) = Unit {0}
 
 -- the same of the line of this number: without an answer no field is left of it
-abbrev pub AnswersLine :
-    ℕ → Result (Option Entry) FeedFault → Option (Result Entry FeedStop) → Type 0
+abbrev pub AnswersLine : {T : Type 0}
+    → ℕ → Result (Option T) FeedFault → Option (Result T FeedStop) → Type 0
 AnswersLine number line None = line ≡ Ok None
-AnswersLine number line (Some (Ok entry)) = line ≡ Ok (Some entry)
+AnswersLine number line (Some (Ok told)) = line ≡ Ok (Some told)
 AnswersLine number line (Some (Err (Fault refused fault))) =
     (refused ≡ number) × (line ≡ Err fault)
 AnswersLine number line (Some (Err (Read stop))) = ⊥

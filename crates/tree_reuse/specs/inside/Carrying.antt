@@ -18,7 +18,7 @@ use Rattle.tree_reuse.specs.declared.halves.Halves.{Halves}
 use Rattle.tree_reuse.specs.declared.halves.Halves.TheVariants.{Both, YesAlone, NoAlone}
 use Rattle.tree_reuse.specs.declared.carry.Part.{Part}
 use Rattle.tree_reuse.specs.declared.carry.Part.TheVariants.{Dropped, Kept}
-use Rattle.tree_reuse.specs.inside.Steps.{literal_of, zone_of_part}
+use Rattle.tree_arena.specs.inside.Steps.{literal_of, zone_of_part}
 use Rattle.tree_reuse.specs.inside.Retargets.{halves_in, leaf_kept, retargeted_from}
 
 -- the way after a part was taken up: that of its zone; a part that is dropped changes nothing

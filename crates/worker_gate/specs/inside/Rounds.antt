@@ -11,3 +11,11 @@ abbrev pub close_of : RoundEnd → Result Entry FeedStop
 close_of round_end.Ask = Ok entry.Ask
 close_of round_end.End = Ok entry.End
 close_of (round_end.Stop stop) = Err stop
+
+-- a round ends on no event
+abbrev pub IsNoEvent : Result Entry FeedStop → Type 0
+IsNoEvent (Ok (entry.Change event)) = ⊥
+IsNoEvent (Ok entry.Ask) = Unit {0}
+IsNoEvent (Ok entry.Proofs) = Unit {0}
+IsNoEvent (Ok entry.End) = Unit {0}
+IsNoEvent (Err stop) = Unit {0}

@@ -1,10 +1,13 @@
-use Rattle.std.proofs.Common.{rules, ap, sym, ◌∙◌}
+use Rattle.std.proofs.Common.{rules, ap, length, subst, sym, ◌∙◌}
+use Rattle.league_core.specs.game.Seasons.{IsSeasonOf}
+use Rattle.league_core.proofs.LogLemmas.{season_after_of}
 use Rattle.command_words.specs.declared.command.Mode.TheVariants.{Verdicts, WhatIf}
 use Rattle.result_log.specs.inside.Rounds.{live_entry}
 use Rattle.what_if.specs.inside.StepCalls.{live_step}
 use Rattle.futmax_main.specs.Courses.{about_in}
 use Rattle.futmax_main.proofs.HaltLemmas.{entries-halt, plain-about_in, plain-reads, reads-as}
 use Rattle.futmax_main.proofs.HaltLemmas.{round-live, round-starves, steps-halt}
+use Rattle.futmax_main.proofs.HaltLemmas.{steps-no_proofs}
 use Rattle.futmax_main.proofs.halting.next_round.Goals as goal
 use Rattle.league_core.proofs.plain.Options.{err-holds}
 
@@ -31,27 +34,34 @@ returns-in_ok-round-in-Verdicts-clause-ok g c =
     over.questions over.season (over.home ∙ sym c.requires.live.home))
     over.sheet over.ends over.last
 
-pub returns-in_err-read_steps-in-WhatIf-clause-err :
-    goal.returns-in_err-read_steps-in-WhatIf-clause-err
-returns-in_err-read_steps-in-WhatIf-clause-err g c =
-    let starved = c.in_err-read_steps-in-WhatIf.ensures in
-    err-holds c.from_residual-in_err-read_steps-in-WhatIf.result _
+pub returns-in_err-round-in-WhatIf-clause-err : goal.returns-in_err-round-in-WhatIf-clause-err
+returns-in_err-round-in-WhatIf-clause-err g c =
+    let starved = c.in_err-round-in-WhatIf.ensures in
+    err-holds c.from_residual-in_err-round-in-WhatIf.result _
     (round-starves g.S.Source.left g.S.Source.reads c.args.setup.now.mode c.args.pool _ _
-    c.args.source.now c.read_steps.new.source (live_step c.args.pool.sheet)
+    c.args.source.now c.read_parsed.new.source (live_step c.args.pool.sheet)
     (reads-as c.args.setup.now.mode WhatIf c.args.pool.sheet c.in-WhatIf.is)
     starved.err starved.err_last)
 
-pub returns-in_ok-read_steps-in-WhatIf-clause-ok :
-    goal.returns-in_ok-read_steps-in-WhatIf-clause-ok
-returns-in_ok-read_steps-in-WhatIf-clause-ok g c =
-    let round = c.in_ok-read_steps-in-WhatIf.field-0 in
-    let over = c.in_ok-read_steps-in-WhatIf.ensures in
+pub halt_of_steps-requires-clause-proofs : goal.halt_of_steps-requires-clause-proofs
+halt_of_steps-requires-clause-proofs g c =
+    let round = c.in_ok-round-in-WhatIf.round in
+    let over = c.in_ok-round-in-WhatIf.ensures in
+    steps-no_proofs round.pool.sheet round.pool.season (length round.pool.log)
+    c.read_parsed.new.reader.text round.last
+    (subst (IsSeasonOf round.pool.sheet) (sym over.season)
+    (season_after_of round.pool.sheet round.pool.log)) over.there
+
+pub returns-in_ok-round-in-WhatIf-clause-ok : goal.returns-in_ok-round-in-WhatIf-clause-ok
+returns-in_ok-round-in-WhatIf-clause-ok g c =
+    let round = c.in_ok-round-in-WhatIf.round in
+    let over = c.in_ok-round-in-WhatIf.ensures in
     steps-halt g.S.Source.left g.S.Source.reads c.args.setup.now.mode c.args.pool _ _
-    c.args.source.now c.read_steps.new.source round c.halt_of_steps.result
-    c.halt_of_steps.ensures c.in-WhatIf.is
+    c.args.source.now c.read_parsed.new.source round.pool c.halt_of_steps.result.end round.last
+    c.halt_of_steps.result c.halt_of_steps.ensures.halt c.halt_of_steps.ensures.end c.in-WhatIf.is
     (round-live c.args.setup.now.mode c.args.pool round.pool c.requires.live over.sheet
     over.questions over.season over.home)
-    over.sheet over.ends over.last over.about over.unplayed
+    over.sheet over.season over.ends over.last over.there
 
 pub returns-in_err-read_round-in-Table : goal.returns-in_err-read_round-in-Table
 returns-in_err-read_round-in-Table g c =

@@ -27,7 +27,7 @@ returns-in-Err c =
     c.loop-ask.items.items items in
     let L : ℕ → Type 0 = λ it. KeepsItems sheet it ask c.loop-ask.items.items items in
     stopped_is sheet asks lines items c.in-Err.stop c.stopped.result c.stopped.ensures.items
-    c.stopped.ensures.ending c.stopped.ensures.told
+    c.stopped.ensures.ending c.stopped.ensures.cause
     (λ told. asks_stop sheet asks lines judged ask reached.next reached.unsettled
     c.loop-ask.items.items items c.in-Err.stop told within is before.cut c.in-Err.ensures.cuts
     (subst L (length-map lines shown) (subst K is c.cut_ask.ensures.items)

@@ -1,6 +1,6 @@
 use Rattle.std.proofs.Common.{◌<◌, List, ap, arith, reverse, length, refl}
 use Rattle.league_core.specs.declared.zone.Literal.{Literal}
-use Rattle.tree_reuse.specs.inside.Calls.{IsNodeOf}
+use Rattle.tree_arena.specs.inside.Calls.{IsNodeOf}
 use Rattle.tree_reuse.proofs.CarryLemmas.{walk_started, walk_within, walk_on}
 use Rattle.tree_reuse.proofs.carry.carry.Goals as goal
 

@@ -3,7 +3,7 @@ use Rattle.std.specs.List.{All}
 use Rattle.league_core.specs.search.Trees.{preorder}
 use Rattle.tree_reuse.specs.inside.Retargets.{retargeted_from}
 use Rattle.tree_reuse.specs.inside.Carrying.{IsWalk}
-use Rattle.tree_reuse.specs.inside.Calls.{IsNodeOf}
+use Rattle.tree_arena.specs.inside.Calls.{IsNodeOf}
 use Rattle.tree_reuse.proofs.carry.carry.Given as goal
 
 abbrev pub invariant-loop-part : goal.invariant-loop-part

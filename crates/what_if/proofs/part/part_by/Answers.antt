@@ -1,14 +1,17 @@
-use Rattle.std.proofs.Common.{sym}
-use Rattle.league_core.proofs.FinishLemmas.{may_all_end-length}
 use Rattle.what_if.proofs.HintLemmas.{example_below}
 use Rattle.what_if.proofs.PartLemmas.{played_league, won_given}
 use Rattle.what_if.proofs.part.part_by.Goals as goal
 
-pub won-requires-clause-same : goal.won-requires-clause-same
-won-requires-clause-same c =
-    rw c.season-season.ensures.season
-    (sym (may_all_end-length c.args.stage.now.sheet.goal_limit c.args.stage.now.season.scores
-    c.args.example.now.finish.scores c.requires.example.is_finish.scores))
+pub won-requires-clause-league : goal.won-requires-clause-league
+won-requires-clause-league c =
+    rw (c.sheet-sheet.ensures.sheet, c.season-season.ensures.season)
+    (played_league c.args.stage.now.sheet c.sheet-sheet.result.now c.args.stage.now.season
+    c.season-season.result.now c.sheet-sheet.ensures.sheet c.season-season.ensures.season
+    c.sheet-sheet.ensures.limits c.season-season.ensures.of_sheet)
+
+pub won-requires-clause-example : goal.won-requires-clause-example
+won-requires-clause-example c =
+    rw (c.sheet-sheet.ensures.sheet, c.season-season.ensures.season) c.requires.example
 
 pub returns-then-are_true-clause-part : goal.returns-then-are_true-clause-part
 returns-then-are_true-clause-part c =

@@ -1,22 +1,25 @@
-use Rattle.std.proofs.Common.{sym}
-use Rattle.league_core.proofs.FinishLemmas.{may_all_end-length}
 use Rattle.what_if.proofs.PartLemmas.{played_league, won_given, refuted_given, spent_given}
 use Rattle.what_if.proofs.part.worked.Goals as goal
 
 pub solve_given-requires-clause-league : goal.solve_given-requires-clause-league
 solve_given-requires-clause-league c =
     rw (c.requires.sheet, c.requires.season)
-    (played_league c.args.stage.now.sheet c.sheet.result.now c.args.stage.now.season
-    c.season-season.result.now c.sheet.ensures.sheet c.season-season.ensures.season
-    c.sheet.ensures.limits c.season-season.ensures.of_sheet)
+    (played_league c.args.stage.now.sheet c.sheet-sheet.result.now c.args.stage.now.season
+    c.season-season.result.now c.sheet-sheet.ensures.sheet c.season-season.ensures.season
+    c.sheet-sheet.ensures.limits c.season-season.ensures.of_sheet)
 
-pub won-requires-clause-same : goal.won-requires-clause-same
-won-requires-clause-same c =
+pub won-requires-clause-league : goal.won-requires-clause-league
+won-requires-clause-league c =
+    rw (c.sheet-sheet.ensures.sheet, c.season-season.ensures.season)
+    (played_league c.args.stage.now.sheet c.sheet-sheet.result.now c.args.stage.now.season
+    c.season-season.result.now c.sheet-sheet.ensures.sheet c.season-season.ensures.season
+    c.sheet-sheet.ensures.limits c.season-season.ensures.of_sheet)
+
+pub won-requires-clause-example : goal.won-requires-clause-example
+won-requires-clause-example c =
     let solved = rw c.in-Won.is at c.in_ok-finish.ensures.solved in
     let example = rw (c.requires.sheet, c.requires.season) at solved in
-    rw c.season-season.ensures.season
-    (sym (may_all_end-length c.args.stage.now.sheet.goal_limit c.args.stage.now.season.scores
-    c.in-Won.finish.scores example.example.is_finish.scores))
+    rw (c.sheet-sheet.ensures.sheet, c.season-season.ensures.season) example.example
 
 pub returns-in-Won-clause-part : goal.returns-in-Won-clause-part
 returns-in-Won-clause-part c =
@@ -24,9 +27,9 @@ returns-in-Won-clause-part c =
     let example = rw (c.requires.sheet, c.requires.season) at solved in
     won_given c.args.stage.now.sheet c.args.stage.now.season c.args.base.now c.args.question.now
     c.in-Won.finish c.in-Won.lots c.won.result
-    (played_league c.args.stage.now.sheet c.sheet.result.now c.args.stage.now.season
-    c.season-season.result.now c.sheet.ensures.sheet c.season-season.ensures.season
-    c.sheet.ensures.limits c.season-season.ensures.of_sheet)
+    (played_league c.args.stage.now.sheet c.sheet-sheet.result.now c.args.stage.now.season
+    c.season-season.result.now c.sheet-sheet.ensures.sheet c.season-season.ensures.season
+    c.sheet-sheet.ensures.limits c.season-season.ensures.of_sheet)
     (rw c.season-season.ensures.season at c.scores-scores.ensures.within) example
     c.won.ensures.known (rw c.season-season.ensures.season at c.won.ensures.lines)
 
@@ -42,6 +45,5 @@ returns-clause-part c =
     let solved = rw c.in-Spent.is at c.in_ok-finish.ensures.solved in
     spent_given c.args.stage.now.sheet c.args.stage.now.season c.args.base.now
     c.args.question.now c.in-Spent.tree c.spent.result c.requires.base.of_scores
-    (rw
-    (c.requires.sheet, c.requires.season, c.sheet.ensures.sheet) at solved) c.spent.ensures.known
-    c.spent.ensures.lines
+    (rw (c.requires.sheet, c.requires.season, c.sheet-sheet.ensures.sheet) at solved)
+    c.spent.ensures.known c.spent.ensures.lines

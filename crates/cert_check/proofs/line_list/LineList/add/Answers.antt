@@ -1,24 +1,30 @@
-use Rattle.std.proofs.Common.{◌≡◌, ◌+◌, ◌++◌, [], ◌∷◌, List, length, ap, ◌∙◌, arith}
+use Rattle.std.proofs.Common.{◌≡◌, ◌+◌, ◌++◌, ◌∷◌, [], List, ap, ◌∙◌, arith, sym, subst}
 use Rattle.cert_check.specs.LineLists.{NumberedLine}
-use Rattle.cert_check.proofs.LineEndLemmas.{line_added}
+use Rattle.cert_check.specs.inside.LineBlocks.{IsFilled, lines_of_blocks}
+use Rattle.cert_check.proofs.LineListLemmas.{added_one}
 use Rattle.cert_check.proofs.line_list.LineList.add.Goals as goal
 
-pub invariant_of-self-in-Ok : goal.invariant_of-self-in-Ok
-invariant_of-self-in-Ok c =
-    let kept = c.self.inside in
-    let end : c.in-Some.end.end ≡ length kept.bytes.items + length c.args.text.now =
-    omega (arith, c.in-Some.ensures.1, c.len-before.ensures) in
-    (line_added kept.bytes.items c.args.text.now c.extend_from_slice.new.self.items
-    kept.ends.items c.push.new.self.items c.args.number c.in-Some.end c.self.invariant
-    c.in_ok-extend_from_slice.ensures.items c.in-Ok.ensures.items c.in-Some.ensures.0 end).0
+pub invariant_of-self-2 : goal.invariant_of-self-2
+invariant_of-self-2 c =
+    let list = c.self.inside in
+    let full = c.make_room.new.full.items in
+    let line : NumberedLine = record { number = c.args.number; text = c.args.text.now } in
+    let kept = c.in_ok-make_room.ensures.kept list.count c.self.invariant in
+    let added = added_one full c.make_room.new.latest list.count line kept
+    c.in_ok-make_room.ensures.ok in
+    let count : list.count + 1 ≡ c.in-Some.count = omega (arith, c.in-Some.ensures) in
+    subst (λ latest. IsFilled full latest c.in-Some.count) (sym c.in_ok-add.ensures.ok)
+    (subst (IsFilled full (c.make_room.new.latest ++ line ∷ [])) count added.0)
 
-pub returns-in-Ok-clause-ok : goal.returns-in-Ok-clause-ok
-returns-in-Ok-clause-ok c =
-    let kept = c.self.inside in
-    let end : c.in-Some.end.end ≡ length kept.bytes.items + length c.args.text.now =
-    omega (arith, c.in-Some.ensures.1, c.len-before.ensures) in
-    (line_added kept.bytes.items c.args.text.now c.extend_from_slice.new.self.items
-    kept.ends.items c.push.new.self.items c.args.number c.in-Some.end c.self.invariant
-    c.in_ok-extend_from_slice.ensures.items c.in-Ok.ensures.items c.in-Some.ensures.0 end).1
-    ∙ ap (λ (lines : List NumberedLine).
-    lines ++ record { number = c.args.number; text = c.args.text.now } ∷ []) c.self.view_is
+pub returns-clause-ok : goal.returns-clause-ok
+returns-clause-ok c =
+    let list = c.self.inside in
+    let full = c.make_room.new.full.items in
+    let line : NumberedLine = record { number = c.args.number; text = c.args.text.now } in
+    let kept = c.in_ok-make_room.ensures.kept list.count c.self.invariant in
+    let added = added_one full c.make_room.new.latest list.count line kept
+    c.in_ok-make_room.ensures.ok in
+    ap (lines_of_blocks full) c.in_ok-add.ensures.ok
+    ∙ added.1
+    ∙ ap (λ (lines : List NumberedLine). lines ++ line ∷ [])
+    (c.in_ok-make_room.ensures.same ∙ c.self.view_is)

@@ -1,19 +1,28 @@
-use Rattle.std.proofs.Common.{◌≡◌, ◌<◌, List, ap, ◌∙◌, length, arith, subst}
-use Rattle.cert_check.specs.LineLists.{NumberedLine, line_number_at}
-use Rattle.cert_check.proofs.LineEndLemmas.{kept-length, number-kept}
+use Rattle.std.proofs.Common.{◌<◌, ◌/◌, ◌%◌, length, ap, ◌∙◌, arith, get_or}
+use Rattle.cert_check.specs.LineLists.{line_number_at}
+use Rattle.cert_check.specs.inside.LineBlocks.{lines_of_blocks}
+use Rattle.cert_check.proofs.LineListLemmas.{block_there, number_there}
 use Rattle.cert_check.proofs.line_list.LineList.number.Goals as goal
 
-pub index-requires : goal.index-requires
-index-requires c =
-    let kept = c.self.inside in
-    omega (arith, ap length c.self.view_is, kept-length kept.bytes.items 0 kept.ends.items)
+pub number-requires : goal.number-requires
+number-requires c =
+    let list = c.self.inside in
+    let within : c.args.at < length (lines_of_blocks list.full.items list.latest) =
+    omega (arith, c.requires, ap length c.self.view_is) in
+    let block = c.block_with-block.ensures
+    ∙ ap (λ full. get_or full (c.args.at / 4096) list.latest) c.as_slice.ensures.value in
+    let there = block_there list.full.items list.latest list.count c.args.at c.self.invariant
+    within in
+    omega (arith, there.1, ap length block)
 
 pub returns : goal.returns
 returns c =
-    let kept = c.self.inside in
-    let within : c.args.at < length kept.ends.items =
-    omega (arith, ap length c.self.view_is, kept-length kept.bytes.items 0 kept.ends.items) in
-    let P : List NumberedLine → Type 0 = λ lines. c.from.result ≡ line_number_at lines c.args.at in
-    subst P c.self.view_is
-    (c.from.ensures ∙ ap (λ it. it.number) c.index.ensures
-    ∙ number-kept kept.bytes.items 0 kept.ends.items c.args.at c.index.result.now within)
+    let list = c.self.inside in
+    let within : c.args.at < length (lines_of_blocks list.full.items list.latest) =
+    omega (arith, c.requires, ap length c.self.view_is) in
+    let block = c.block_with-block.ensures
+    ∙ ap (λ full. get_or full (c.args.at / 4096) list.latest) c.as_slice.ensures.value in
+    c.number.ensures
+    ∙ ap (λ lines. line_number_at lines (c.args.at % 4096)) block
+    ∙ number_there list.full.items list.latest list.count c.args.at c.self.invariant within
+    ∙ ap (λ lines. line_number_at lines c.args.at) c.self.view_is

@@ -1,0 +1,14 @@
+use Rattle.std.proofs.Common.{◌≡◌, ℕ, ◌<◌, ◌≤◌, length, get_or}
+use Rattle.tree_arena.specs.declared.node.Node.{Node}
+use Rattle.tree_arena.specs.inside.Arena.{number_mark}
+use Rattle.tree_arena.proofs.arena.find.Given as goal
+
+abbrev pub invariant-loop-place : goal.invariant-loop-place
+invariant-loop-place l = record {
+  within : l.place ≤ length l.lent;
+  none : (k : ℕ) (default : Node) → l.place ≤ k → k < length l.lent
+      → number_mark l.number (get_or l.nodes (get_or l.lent k 0) default).kind ≡ 0;
+}
+
+abbrev pub decreases-loop-place : goal.decreases-loop-place
+decreases-loop-place l = l.place
