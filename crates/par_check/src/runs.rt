@@ -33,7 +33,7 @@ pub fn runs_from(whole: &Whole, from: Place, shares: Shares) -> Result<Vec<Run>,
     let mut runs = Vec::new(whole.alloc);
     let mut begun = from;
     let mut due = from;
-    for at in from.next..whole.lines.len() {
+    for at in from.next..last_looked_at(whole, from, shares) {
         let kind = kind_at(whole.lines, at);
         begun = begin_before(whole, &mut runs, (begun, due), kind, shares.run)?;
         if begun.next.saturating_sub(from.next) >= shares.lines {
@@ -43,6 +43,15 @@ pub fn runs_from(whole: &Whole, from: Place, shares: Shares) -> Result<Vec<Run>,
     }
     add(&mut runs, last_run(whole, begun))?;
     Ok(runs)
+}
+
+// Up to where lines are looked at: an item that is longer than all that is to be read together is
+// left to one thread.
+fn last_looked_at(whole: &Whole, from: Place, shares: Shares) -> usize
+    ensures { result ≤ length whole.now.lines.now }
+{
+    let most = from.next.saturating_add(shares.lines.saturating_mul(2));
+    most.min(whole.lines.len())
 }
 
 // Where the run begins that a line is in: at a row here, if the one before is long enough.
