@@ -10,13 +10,14 @@ ghost use Rattle.pool_save.specs.inside.SavedTexts.{AreAskedTrees};
 use crate::help::{answer_at, finished, pool_of_sheet, units_at};
 use branch_pool::Answer;
 use league_core::{Sheet, TreeNode};
-use pool_save::{SaveStop, read_saved, take_up};
+use pool_save::{SaveStop, item_lines, item_row, read_saved, take_up};
 use port_core::{LineReader, MemSource};
 use sample_leagues::sample_of;
 use std::alloc::Global;
 use std::fmt::Write;
 use std::test::Fail;
 use tree_arena::Tree;
+use verdict_run::questions;
 
 const LEAGUE: &[u8] = b"league,Idle,1,1\nclub,C,1\nclub,X,2\nclub,Y,3\nmatch,X,Y\nline,1\nseason\n";
 
@@ -161,5 +162,42 @@ fn a_pool_goes_on_from_saved_trees(rt: HostRuntime) -> Result<(), Fail> {
             "{text}"
         );
     }
+    Ok(())
+}
+
+// The row of the item of the first question, and how many lines its tree has.
+fn first_item(alloc: Global, sheet: &Sheet, tree: &Tree) -> Result<(Vec<u8>, usize), Fail>
+    requires { IsWithinLimits sheet.now }
+{
+    let asked = questions(alloc, sheet)?;
+    let Some(question) = asked.first() else {
+        return Err("no question".into());
+    };
+    if usize::from(question.club) >= sheet.clubs.len() {
+        return Err("no club".into());
+    }
+    let lines = item_lines(alloc, tree)?;
+    Ok((item_row(alloc, sheet, question)?, lines.len()))
+}
+
+fn rewritten(alloc: Global, text: &str) -> Result<(Vec<u8>, usize), Fail> {
+    let sample = sample_of(alloc, LEAGUE).ok_or("no league")?;
+    let Ok(trees) = read_text(alloc, &sample.sheet, text.as_bytes())? else {
+        return Err("no trees".into());
+    };
+    match trees.first() {
+        Some(Some(tree)) => first_item(alloc, &sample.sheet, tree),
+        _ => Err("no tree".into()),
+    }
+}
+
+#[test]
+fn an_item_is_written_as_it_was_read(rt: HostRuntime) -> Result<(), Fail> {
+    let alloc = rt.alloc();
+    let text = "saved,1,C,inside\n[\"split\",\"rival\",2]\n[\"leaf\",\"count\"]\n\
+                [\"open\"]\nsaved_end\n";
+    let (row, lines) = rewritten(alloc, text)?;
+    assert!(rt; row.as_slice() == b"saved,1,C,inside\n".as_slice());
+    assert_eq!(rt; lines, 3);
     Ok(())
 }
