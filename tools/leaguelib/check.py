@@ -81,10 +81,10 @@ def given_report(paths: list[str]) -> Given:
         raise common.Trouble("there is no report: name it as the last file, as in `league check "
                              "SHEET FEED REPORT`.", common.BAD_WORDS)
     name, report = files[-1]
-    if kind_of(report) in ("sheet", "feed"):
+    if kind_of(report) in ("sheet", "feed", "saved text"):
         raise common.Trouble(f"there is no report: {name}, the last file, is a {kind_of(report)}. "
-                             "Name the report after it, as in `league check SHEET FEED REPORT`.",
-                             common.BAD_WORDS)
+                             "Name the report after sheet and feed, as in `league check SHEET FEED "
+                             "REPORT`.", common.BAD_WORDS)
     front = given_of(files[:-1], adds_ask=bool(report.strip()))
     data = ended(front.data)
     first = data.count(b"\n") + 2

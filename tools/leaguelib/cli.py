@@ -26,6 +26,8 @@ PARTS = {
     "board": "write an answer as a page for the browser",
     "tonight": "what each open match of the evening would decide",
     "live": "keep a log and have each line answered at once",
+    "save": "keep the work on a league in a file",
+    "resume": "go on from such a file: who is in, out and open now",
     "many": "ask many leagues, and write what changed when, for a database",
     "sheet": "make a sheet from a list of fixtures",
     "feed": "turn results by names into a feed",
@@ -42,6 +44,8 @@ examples:
   league lint sheet.csv feed.csv
   league tonight sheet.csv feed.csv
   league live sheet.csv feed.csv
+  league save sheet.csv feed.csv -o night.save
+  league resume sheet.csv feed.csv night.save today.csv
 
 """
 

@@ -20,13 +20,14 @@ OWN_FAULT = 70
 INTERRUPTED = 130
 
 STATUS_TABLE = """\
-exit statuses; those with a star are of ask, table, scores, tonight and check, as futmax has them:
+exit statuses; those with a star are of ask, table, scores, tonight, check, save and resume, as
+futmax has them:
   0    done: nothing to fix, every ask is answered, or the report is accepted
   1    wrong arguments
   2    something in the input must be fixed; the messages say what
   2 *  a line of the sheet is refused
   3    the input can be used, but something looks wrong, is unsettled or was not checked
-  3 *  a line of the feed is refused; answers before it are good
+  3 *  a line of the feed, or of a saved text, is refused; answers before it are good
   4    a file, or standard input, cannot be read
   5    the output cannot be written
   6    the program futmax cannot be run, or it ended with a fault

@@ -128,11 +128,11 @@ def some_pairs(pairs: list[tuple[str, str]]) -> str:
 
 
 def feed_doubts(sheet: Sheet, entries: list[Entry], question: str = "ask") -> Iterator[Doubt]:
-    """What looks wrong in a feed whose mode answers an `ask`, or a `when`."""
+    """What looks wrong in a feed whose mode answers an `ask`, a `when`, or nothing ("")."""
     asks = [entry for entry in entries if entry.kind == question]
     has_report = bool(entries) and entries[-1].kind == "proofs"
     entries = entries[:-1] if has_report else entries
-    if not asks:
+    if question and not asks:
         written = "`ask`" if question == "ask" else "`when` with the number of an open match"
         yield Doubt(0, f"the feed has no `{question}`, so the program answers nothing. Write "
                        f"{written} as the last line")

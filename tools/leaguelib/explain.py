@@ -20,6 +20,7 @@ from .front import add_budget_argument
 from .given import Given, add_file_arguments, ended, gather
 from .progress import Progress, add_progress_argument
 from .proved import Told, own_report, refusal_of_report
+from .report_faults import kind_of
 from .running import ask_lines
 from .screen import limit_text
 from .stopped import league_in
@@ -138,6 +139,9 @@ def _given_report(arguments: argparse.Namespace, given: Given,
     if report_bytes.startswith(b"when,"):
         raise common.Trouble("this is an answer of the mode `whatif`, which has no proofs that "
                              "could be checked: give the feed with its `when` lines alone.")
+    if kind_of(report_bytes) == "saved text":
+        raise common.Trouble("this is a saved text, and no report: `league resume` goes on from "
+                             "it, and says who is in, out and open.")
     found = refusal_of_report(path, ended(front), report_bytes)
     report = _read(report_bytes)
     if found not in ("accepted", "unknown"):

@@ -41,6 +41,12 @@ def add_budget_argument(parser: argparse.ArgumentParser) -> None:
                              "greater one")
 
 
+def add_one_budget(parser: argparse.ArgumentParser) -> None:
+    """The budget in place of that of the sheet, of a part that asks once."""
+    parser.add_argument("--budget", type=_budget, metavar="N",
+                        help=f"the budget in place of that of the sheet, 1 to {MOST_BUDGET:,}")
+
+
 def _budget(text: str) -> int:
     """A budget as the sheet takes it."""
     budget = int(text)
@@ -59,15 +65,20 @@ def answered(arguments: argparse.Namespace, mode: str, tell: Tell) -> int:
         outcome = ask_mode(path, mode, given, wanted, getattr(arguments, "budget", None))
         text = "" if is_for_people and outcome.stop else (
             tell(given, outcome, path) if is_for_people
-            else _for_programs(given, outcome, arguments))
+            else for_programs(given, outcome, arguments))
+    write_outcome(arguments, outcome, text)
+    return common.DONE
+
+
+def write_outcome(arguments: argparse.Namespace, outcome: Outcome, text: str) -> None:
+    """Writes an answer, says of which asks rows are unsettled, and raises why futmax stopped."""
     common.write_text(text)
-    if not is_for_people and outcome.league is not None:
+    if (arguments.json or arguments.rows) and outcome.league is not None:
         for ask in outcome.asked:
             if budget_note(ask):
                 common.say(f"league: ask {ask.position + 1}: {budget_note(ask)}")
     if outcome.stop is not None:
         raise common.Trouble(outcome.stop.message, outcome.stop.status)
-    return common.DONE
 
 
 def wanted_asks(given: Given, mode: str, wanted: int | None,
@@ -83,7 +94,7 @@ def wanted_asks(given: Given, mode: str, wanted: int | None,
     return [position - 1, position] if has_earlier else [position]
 
 
-def _for_programs(given: Given, outcome: Outcome, arguments: argparse.Namespace) -> str:
+def for_programs(given: Given, outcome: Outcome, arguments: argparse.Namespace) -> str:
     """The answer as rows, or as objects with the fault after them."""
     if arguments.rows:
         return "".join(rows_of(ask.answer) for ask in outcome.asked)

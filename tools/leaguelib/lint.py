@@ -10,14 +10,16 @@ import argparse
 from . import common
 from .cleaning import KINDS
 from .doubts import Doubt, feed_doubts, sheet_doubts
-from .feeds import InputReader, read_input
+from .feeds import Input, InputReader, read_input
 from .files import examine, joined
 from .findings import Finding, Outcome, capital, outcome_text
 from .records import Record, Refused, count_lines, lines_of, record_of
 from .refusals import Advice, advise
 from .repairs import FEED_KINDS
+from .saved import SAVED_KINDS, without_saved
+from .saved_lines import first_bad_line
 from .texts import Entry
-from .words import words_for
+from .words import SAVED_WORDS, words_for
 
 MOST_SHOWN = 30
 MOST_REFUSED = 10_000
@@ -30,7 +32,8 @@ def add_arguments(parser: argparse.ArgumentParser) -> None:
     parser.add_argument("--sheet-only", action="store_true",
                         help="the files hold a sheet alone: expect no feed")
     parser.add_argument("--mode", default="verdicts",
-                        choices=("verdicts", "whatif", "table", "scores", "check"),
+                        choices=("verdicts", "whatif", "table", "scores", "check", "save",
+                                 "resume"),
                         help="the mode in which futmax is to be run (verdicts)")
 
 
@@ -66,6 +69,8 @@ def look(data: bytes, is_sheet_only: bool = False, mode: str = "verdicts") -> Ou
     """Looks at a whole input in UTF-8; in the mode `check` the report after `proofs` is not."""
     takes_proofs = mode == "check"
     outcome = Outcome(refused=refusal_of(data, mode), league_line=_league_line(data))
+    if mode == "resume":
+        data = without_saved(data)
     reader = InputReader(takes_proofs, mode == "whatif")
     entries: list[Entry] = []
     try:
@@ -74,6 +79,8 @@ def look(data: bytes, is_sheet_only: bool = False, mode: str = "verdicts") -> Ou
             if record is not None:
                 entries.extend(_take(record, reader, outcome))
             is_report_next = bool(entries) and entries[-1].kind == "proofs"
+            if record is not None and record.kind in SAVED_KINDS:
+                return outcome
             if outcome.more >= MOST_REFUSED or is_report_next:
                 break
     except Refused as refused:
@@ -84,11 +91,14 @@ def look(data: bytes, is_sheet_only: bool = False, mode: str = "verdicts") -> Ou
     if reader.sheet is not None:
         outcome.doubts.extend(sheet_doubts(reader.sheet, mode == "table"))
         if reader.feed_reader is not None and not is_sheet_only:
-            question = "when" if mode == "whatif" else "ask"
+            question = {"whatif": "when", "save": ""}.get(mode, "ask")
             outcome.doubts.extend(feed_doubts(reader.sheet, entries, question))
             if takes_proofs and not any(entry.kind == "proofs" for entry in entries):
                 outcome.doubts.append(Doubt(0, "the input has no `proofs`; the report for the "
                                                "mode `check` comes after it"))
+    if outcome.refused is not None and outcome.refused.code == "bad_save":
+        outcome.findings.append(Finding(outcome.refused.line,
+                                        capital(words_for(outcome.refused, [], None)) + "."))
     return outcome
 
 
@@ -101,10 +111,22 @@ def _league_line(data: bytes) -> int:
 def refusal_of(data: bytes, mode: str = "verdicts") -> Refused | None:
     """The line at which the program stops in a mode, if it does."""
     try:
-        read_input(data, mode == "check", mode == "whatif")
+        league = read_input(data, mode in ("check", "resume"), mode == "whatif")
+        if mode == "resume":
+            bad = _bad_save(league, data)
+            if bad:
+                return Refused(bad, "bad_save", 0, "feed")
+            read_input(without_saved(data))
     except Refused as refused:
         return refused
     return None
+
+
+def _bad_save(league: Input, data: bytes) -> int:
+    """The line that is refused for the saved text; 0 if none is."""
+    if not league.report_line:
+        return count_lines(data) + 1
+    return first_bad_line(league.sheet, data, league.report_line - 1)
 
 
 def _take(record: Record, reader: InputReader, outcome: Outcome) -> list[Entry]:
@@ -144,6 +166,8 @@ def _note(record: Record, refused: Refused, reader: InputReader, outcome: Outcom
 
 def _advice_on_first(record: Record, league_line: int) -> Advice | None:
     """Advice on a first record that is no `league`, where the line alone does not tell it."""
+    if record.kind in SAVED_KINDS:
+        return Advice(capital(SAVED_WORDS) + ".")
     if _is_header(record):
         return Advice("This looks like the first row of a fixture list. futmax takes no header "
                       "row: leave the line out. `league sheet` makes a sheet of a fixture list.")

@@ -4,6 +4,8 @@ file, it belongs to another feed, or it was made without proofs.
 
 from __future__ import annotations
 
+from typing import Iterator
+
 from .records import Refused, fields_of
 from .wording import counted
 
@@ -12,12 +14,14 @@ MAKE = "`futmax verdicts --proofs` on sheet and feed makes one"
 
 
 def kind_of(data: bytes) -> str:
-    """What a file looks like by its first record: sheet, feed, report, or nothing of these."""
+    """What a file looks like by its first record: sheet, feed, report, saved text, or none."""
     for fields in _rows(data):
         if fields[0] == "league":
             return "sheet"
         if fields[0] in FEED_KINDS or fields == ["ask"]:
             return "feed"
+        if fields[0] in ("saved", "saved_end"):
+            return "saved text"
         return "report" if fields[0] == "ask" and len(fields) == 2 else ""
     return ""
 
@@ -31,7 +35,7 @@ def fault_of(data: bytes) -> str:
         return ("This is no report of proofs, as `league ask` and others write none: "
                 f"{MAKE}. ")
     asks = sum(fields == ["ask"] for fields in _rows(front))
-    rows = _rows(report)
+    rows = list(_rows(report))
     found = sum(fields[0] == "ask" for fields in rows)
     if found != asks:
         return (f"{counted(found, 'ask')} in the report, {asks} in the feed: they do not belong "
@@ -42,14 +46,16 @@ def fault_of(data: bytes) -> str:
     return ""
 
 
-def _rows(data: bytes) -> list[list[str]]:
+def _rows(data: bytes) -> Iterator[list[str]]:
     """The rows of names and numbers in a file, without comments and lines of proofs."""
-    rows = []
-    for raw in data.split(b"\n"):
+    start = 0
+    while start < len(data):
+        end = data.find(b"\n", start)
+        raw = data[start:] if end < 0 else data[start:end]
+        start = len(data) if end < 0 else end + 1
         try:
             fields = [] if raw[:1] in (b"", b"#", b"[") else fields_of(raw.rstrip(b"\r"))
         except Refused:
             fields = [raw[:40].decode("utf-8", "replace")]
         if fields and fields != [""]:
-            rows.append(fields)
-    return rows
+            yield fields

@@ -45,8 +45,10 @@ class View:
         return marks_of(self.ask.answer.verdicts)
 
 
-def viewed(given: Given, outcome: Outcome, path: str, since: str | None = None) -> View:
-    """What is shown of the last of the asks that were answered, beside the one before it."""
+def viewed(given: Given, outcome: Outcome, path: str, since: str | None = None,
+           before_name: str = "") -> View:
+    """What is shown of the last of the asks that were answered, beside the one before it, which may
+    have a name."""
     league, ask = outcome.league, outcome.asked[-1]
     view = View(given, league, ask, table_at(path, given, league, ask.position),
                 names_in(given.data))
@@ -54,7 +56,7 @@ def viewed(given: Given, outcome: Outcome, path: str, since: str | None = None) 
         view.changes = _since_day(view, path, since)
     elif len(outcome.asked) > 1:
         before = outcome.asked[-2]
-        where = f"the ask in {given.origin(before.line)}"
+        where = before_name or f"the ask in {given.origin(before.line)}"
         told = [it for it in league.entries if before.line < it.line < ask.line and it.is_event]
         view.changes = change_texts(view.names, marks_of(before.answer.verdicts), view.marks,
                                     view.table, f"{where} ({events_text(told)} since)")

@@ -20,6 +20,8 @@ FORMS = {
     "when": "`when,FIXTURE`, like `when,1`",
 }
 FEED_FORMS = ("result", "fix", "void", "deduct", "ask")
+SAVED_WORDS = ("this is a line of a saved text: `league save` writes it, and `league resume SHEET "
+               "FEED SAVED NEW_FEED` goes on from it")
 ANSWER_WORDS = ("verdict", "place", "fault", "usage", "accepted", "refused", "sample")
 BAD_FIELDS = {
     ("league", 2): "the league's name (field 2) is 1 to 40 bytes long, without control signs",
@@ -56,6 +58,8 @@ def _unknown_record(kind: str, where: str) -> str:
     """A first word that does not fit here."""
     if kind in ANSWER_WORDS or kind.startswith("["):
         return "this is a row of an answer of futmax, and no line of a sheet or a feed"
+    if kind in ("saved", "saved_end"):
+        return SAVED_WORDS
     if where == "feed" and kind in ("club", "match", "line", "league"):
         return f"`{kind}` belongs in the sheet: move this line up, before `season`"
     if where == "feed" and kind == "season":
@@ -113,6 +117,8 @@ def _plain_words(code: str, fields: list[str], sheet: Sheet | None) -> str:
             "to correct it, write `fix`"),
         "not_played": "this match has no result yet",
         "log_full": "more than 100,000 events: begin a new feed with one `result` a match",
+        "bad_save": "this is not the saved text of this sheet, whole and as it was written: before "
+                    "the further feed come `proofs` and what `league save` wrote, to `saved_end`",
         "line_too_long": "this line has more than 1,024 bytes",
         "input_too_long": "the input has more than 67,108,864 bytes",
     }

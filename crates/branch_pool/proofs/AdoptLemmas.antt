@@ -12,9 +12,9 @@ use Rattle.league_core.specs.declared.question.Question.{Question}
 use Rattle.league_core.specs.search.Trees.{Tree}
 use Rattle.league_core.specs.inside.Lending.{lent_zones}
 use Rattle.league_core.proofs.LendingLemmas.{lent_zones_absent}
-use Rattle.tree_reuse.specs.inside.Asked.{IsAskedTree}
+use Rattle.tree_reuse.specs.Asked.{IsAskedTree}
 use Rattle.tree_arena.specs.inside.Calls.{AreTestsOf}
-use Rattle.tree_reuse.specs.inside.Retargets.{retargeted}
+use Rattle.tree_reuse.specs.Retargets.{retargeted}
 use Rattle.tree_reuse.proofs.RetargetLemmas.{asked_tests, proper_asked, times_lent-retargeted}
 use Rattle.branch_pool.specs.declared.question_state.QuestionState.{QuestionState}
 use Rattle.branch_pool.specs.inside.States.{PoolView, loan_at, present_epoch, out_count}

@@ -13,14 +13,15 @@ use Rattle.league_core.specs.search.Trees.{Tree}
 use Rattle.league_core.specs.search.Splits.{IsProperNode}
 use Rattle.league_core.proofs.TreeLemmas.{NodesMeet-weaker}
 use Rattle.tree_reuse.specs.inside.RetargetLaws.{IsKeptNode}
-use Rattle.tree_reuse.specs.inside.Asked.{IsAskedTree}
-use Rattle.tree_reuse.specs.inside.Retargets.{retargeted}
+use Rattle.tree_reuse.specs.Asked.{IsAskedTree}
+use Rattle.tree_reuse.specs.Retargets.{retargeted}
 use Rattle.tree_reuse.proofs.RetargetLemmas.{asked_good, proper_asked, lent_count-retargeted}
 use Rattle.tree_reuse.proofs.RetargetLemmas.{new_count-retargeted, node_count-retargeted}
-use Rattle.branch_pool.specs.declared.question_state.Example.{Example}
+use Rattle.tree_arena.specs.declared.example.Example.{Example}
 use Rattle.branch_pool.specs.declared.question_state.QuestionState.{QuestionState}
 use Rattle.branch_pool.specs.inside.Steps.{may_end_as, example_kept, seat_changed}
-use Rattle.branch_pool.specs.inside.Goodness.{IsGoodNode, IsGoodSeat, IsExampleOf}
+use Rattle.tree_arena.specs.inside.GoodNodes.{IsGoodNode}
+use Rattle.branch_pool.specs.inside.Goodness.{IsGoodSeat, IsExampleOf}
 
 -- the test of a finish is the definition
 pub ends_by_test : (sheet : Sheet) (season finish : Results)

@@ -28,7 +28,8 @@ use Rattle.branch_pool.specs.declared.question_state.QuestionState.{QuestionStat
 use Rattle.branch_pool.specs.declared.ticket.Ticket.{Ticket}
 use Rattle.branch_pool.specs.inside.States.{PoolView, present_epoch, out_count}
 use Rattle.branch_pool.specs.inside.Steps.{TakesLeaf, pool_lent}
-use Rattle.branch_pool.specs.inside.Goodness.{IsGoodNode, IsGoodSeat, IsSoundPool, IsCovered}
+use Rattle.tree_arena.specs.inside.GoodNodes.{IsGoodNode}
+use Rattle.branch_pool.specs.inside.Goodness.{IsGoodSeat, IsSoundPool, IsCovered}
 use Rattle.branch_pool.specs.inside.Goodness.{zones_due}
 use Rattle.branch_pool.specs.inside.Goodness.{AreLeavesRefuted, IsExampleTrue, AreUnitsTrue, IsGood}
 use Rattle.branch_pool.specs.inside.QuestionStates.{MayBeCarried}

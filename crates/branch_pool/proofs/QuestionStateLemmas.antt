@@ -4,12 +4,11 @@ use Rattle.std.proofs.Common.{◌≡◌, ℕ, ◌+◌, ◌*◌, ◌<◌, ◌≤�
 use Rattle.std.proofs.Common.{List, [], ◌∷◌, length, Option, Some, None, refl, sym, ap, ◌∙◌}
 use Rattle.std.proofs.Common.{subst, arith}
 use Rattle.std.specs.Prelude.{IfSome}
-use Rattle.std.proofs.lemmas.Bool.{false≢true, and_parts, ltb-true}
+use Rattle.std.proofs.lemmas.Bool.{and_parts, ltb-true}
 use Rattle.std.proofs.lemmas.List.Elements.{All-nil, All-cons}
 use Rattle.league_core.specs.declared.sheet.Sheet.{Sheet}
 use Rattle.league_core.specs.declared.question.Question.{Question}
 use Rattle.league_core.specs.declared.zone.Literal.{Literal}
-use Rattle.league_core.specs.declared.tree.TreeNode.TheVariants.{Open, Lent}
 use Rattle.league_core.specs.game.Results.{Results}
 use Rattle.league_core.specs.search.Trees.{Tree, open_leaf, NodesMeet, new_count, node_count}
 use Rattle.league_core.specs.search.Trees.{has_open}
@@ -23,24 +22,15 @@ use Rattle.reason_core.specs.declared.piece.Piece.{Piece}
 use Rattle.reason_core.specs.declared.finding.Finding.{Finding}
 use Rattle.reason_core.specs.declared.finding.Finding.TheVariants.{Refuted, Split, Won}
 use Rattle.reason_core.specs.inside.Dones.{IsTrueOf}
-use Rattle.branch_pool.specs.declared.question_state.Example.{Example}
+use Rattle.tree_arena.specs.declared.example.Example.{Example}
 use Rattle.branch_pool.specs.declared.question_state.QuestionState.{QuestionState}
 use Rattle.branch_pool.specs.inside.States.{is_workable, new_seat}
 use Rattle.branch_pool.specs.inside.Steps.{seat_lent, seat_after, seat_recalled, leaf_after}
 use Rattle.branch_pool.specs.inside.Steps.{units_after, example_after}
-use Rattle.branch_pool.specs.inside.Goodness.{IsGoodNode, IsGoodSeat, IsExampleOf}
-use Rattle.tree_reuse.specs.inside.Retargets.{most_kept}
-
--- an open leaf is good in any zone, and so is a lent one
-pub open_is_good : (sheet : Sheet) (season : Results) (question : Question) (zone : List Literal)
-    → IsGoodNode sheet season question zone Open
-open_is_good sheet season question zone =
-    record { proper = tt; refuted = tt; unit = λ new. absurd (false≢true new) }
-
-pub lent_is_good : (sheet : Sheet) (season : Results) (question : Question) (zone : List Literal)
-    (number : ℕ) → IsGoodNode sheet season question zone (Lent number)
-lent_is_good sheet season question zone number =
-    record { proper = tt; refuted = tt; unit = λ new. absurd (false≢true new) }
+use Rattle.tree_arena.specs.inside.GoodNodes.{IsGoodNode}
+use Rattle.branch_pool.specs.inside.Goodness.{IsGoodSeat, IsExampleOf}
+use Rattle.tree_reuse.specs.Retargets.{most_kept}
+use Rattle.tree_arena.proofs.GoodNodeLemmas.{open_is_good, lent_is_good}
 
 -- ---- a leaf is lent
 

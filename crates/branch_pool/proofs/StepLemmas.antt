@@ -19,7 +19,7 @@ use Rattle.league_core.specs.game.Questions.{IsQuestionOf}
 use Rattle.league_core.specs.inside.Lending.{lent_zones}
 use Rattle.league_core.proofs.LogLemmas.{AreEventsOf-push}
 use Rattle.league_core.proofs.LendingLemmas.{lent_zones-all_opened, lent_zones_absent}
-use Rattle.tree_reuse.specs.inside.Retargets.{retargeted}
+use Rattle.tree_reuse.specs.Retargets.{retargeted}
 use Rattle.tree_reuse.proofs.RetargetLemmas.{times_lent-retargeted}
 use Rattle.reason_core.specs.declared.done.Done.{Done}
 use Rattle.reason_core.specs.declared.finding.Finding.{Finding}

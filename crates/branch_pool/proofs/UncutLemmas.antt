@@ -5,7 +5,7 @@ use Rattle.league_core.specs.declared.sheet.Sheet.{Sheet}
 use Rattle.league_core.specs.declared.question.Question.{Question}
 use Rattle.league_core.specs.game.Results.{Results}
 use Rattle.league_core.specs.search.Trees.{Tree, open_leaf, lent_leaf, refuted_leaf, branch}
-use Rattle.tree_reuse.specs.inside.Retargets.{retargeted}
+use Rattle.tree_reuse.specs.Retargets.{retargeted}
 use Rattle.tree_reuse.proofs.RetargetLemmas.{open_leaf_stays}
 use Rattle.branch_pool.specs.inside.QuestionStates.{tree_left}
 

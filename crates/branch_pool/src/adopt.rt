@@ -2,7 +2,7 @@
 
 ghost use Rattle.std.specs.Prelude.{◌≡◌, ◌<◌, IfSome, OnErr, OnOk, length};
 ghost use Rattle.std.specs.List.{slice_get};
-ghost use Rattle.tree_reuse.specs.inside.Asked.{IsAskedTree};
+ghost use Rattle.tree_reuse.specs.Asked.{IsAskedTree};
 ghost use Rattle.branch_pool.specs.inside.States.{out_count};
 ghost use Rattle.branch_pool.specs.inside.Steps.{Adopts};
 

@@ -4,9 +4,10 @@ ghost use Rattle.std.specs.Prelude.{◌≡◌, Some};
 ghost use Rattle.std.specs.Option.{option_or, option_map};
 ghost use Rattle.branch_pool.specs.inside.Steps.{example_in};
 
-use crate::question_state::{Example, Loan};
+use crate::question_state::Loan;
 use league_core::{Season, Zone};
 use reason_core::Finding;
+use tree_arena::Example;
 
 /// What a pool no longer needs when a ticket comes back, to be dropped where nobody waits for it.
 #[derive(Drop)]

@@ -12,10 +12,11 @@ use crate::discarded::{Discarded, example_of};
 use crate::loans::is_loan_of;
 use crate::next::earlier_of;
 use crate::pool::Pool;
-use crate::question_state::{Example, Loan};
+use crate::question_state::Loan;
 use crate::ticket::{Gave, Ticket};
 use league_core::Question;
 use reason_core::{Done, Finding, Piece};
+use tree_arena::Example;
 
 impl Pool {
     /// Gives a ticket back with what was done, which is about its piece. What was done is kept

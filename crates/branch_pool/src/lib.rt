@@ -22,5 +22,5 @@ mod work;
 pub use discarded::Discarded;
 pub use laws::{constants_are_the_limits, pools_stay_good, tickets_stay_own, work_comes_to_an_end};
 pub use pool::Pool;
-pub use question_state::{Example, Loan, MOST_QUESTIONS, QuestionState};
+pub use question_state::{Loan, MOST_QUESTIONS, QuestionState};
 pub use ticket::{Answer, ChangeStop, Gave, Ticket, Took, Turn};

@@ -6,7 +6,7 @@ ghost use Rattle.league_core.specs.game.Seasons.{IsLeague};
 ghost use Rattle.league_core.specs.search.Trees.{open_leaf, has_open, node_count};
 ghost use Rattle.league_core.specs.inside.Lending.{times_lent, lent_count, lent_zones, put};
 ghost use Rattle.tree_arena.specs.inside.Calls.{most_nodes};
-ghost use Rattle.tree_reuse.specs.inside.Retargets.{retargeted};
+ghost use Rattle.tree_reuse.specs.Retargets.{retargeted};
 ghost use Rattle.branch_pool.specs.inside.States.{new_seat, is_workable};
 ghost use Rattle.branch_pool.specs.inside.Steps.{seat_after, seat_recalled, seat_changed};
 ghost use Rattle.branch_pool.specs.inside.Steps.{example_kept};
@@ -17,20 +17,13 @@ ghost use Rattle.league_core.specs.game.Questions.{IsQuestionOf};
 
 use crate::discarded::keep_first;
 use crate::ticket::Answer;
-use league_core::{Finish, Lots, OutOfMemory, Question, Season, Sheet, Zone};
+use league_core::{OutOfMemory, Question, Season, Sheet, Zone};
 use reason_core::{Finding, Solver};
 use std::alloc::Global;
-use tree_arena::Tree;
+use tree_arena::{Example, Tree};
 
 /// A pool has at most so many questions.
 pub const MOST_QUESTIONS: u32 = 65_536;
-
-/// A finish with a drawing of lots, at which a question holds.
-#[derive(Drop)]
-pub struct Example {
-    pub finish: Finish,
-    pub lots: Lots,
-}
 
 /// A question, how far it has been taken apart, and what was found.
 #[derive(Drop)]

@@ -30,20 +30,22 @@ use Rattle.league_core.specs.search.Splits.{AreReasonsTrue}
 use Rattle.league_core.proofs.HalfLemmas.{list_all-with}
 use Rattle.cert_text.specs.Ranges.{is_test_in_range}
 use Rattle.cert_text.specs.TreeLines.{is_test_for, are_tests_for, marked_line}
-use Rattle.cert_check.specs.declared.expected.TreeKind.TheVariants.{Refutation, Spent}
-use Rattle.cert_check.specs.ExpectedItems.{Basis, is_path_for, is_reason_for}
+use Rattle.line_tokens.specs.declared.tree_line.TreeKind.TheVariants.{Refutation, Spent}
+use Rattle.cert_check.specs.ExpectedItems.{Basis, is_path_for}
+use Rattle.line_tokens.specs.LineRanges.{is_reason_for}
 use Rattle.league_core.specs.game.Questions.{full_question, holds_at}
 use Rattle.league_core.proofs.LendingLemmas.{new_count-all_opened}
 use Rattle.cert_text.specs.declared.proof_line.ProofLine.{ProofLine}
 use Rattle.cert_text.specs.TreeLines.{IsRefutationTree, IsSpentTree}
 use Rattle.cert_text.specs.ExampleLines.{score_lines, lots_line}
-use Rattle.cert_check.specs.declared.token.Token.{Token}
-use Rattle.cert_check.specs.declared.token.Token.TheVariants.{Row, Proof}
+use Rattle.line_tokens.specs.declared.token.Token.{Token}
+use Rattle.line_tokens.specs.declared.token.Token.TheVariants.{Row, Proof}
 use Rattle.cert_check.specs.declared.expected.RowWord.{RowWord}
 use Rattle.cert_check.specs.declared.expected.RowWord.TheVariants.{Clinched, Lost, Possible}
 use Rattle.cert_check.specs.declared.expected.RowWord.TheVariants.{Unsettled}
-use Rattle.cert_check.specs.Tokens.{counts, counted_lines}
-use Rattle.cert_check.specs.ExpectedItems.{verdict_fields, ask_fields, name_of_club}
+use Rattle.line_tokens.specs.Tokens.{counts, counted_lines}
+use Rattle.cert_check.specs.ExpectedItems.{verdict_fields, ask_fields}
+use Rattle.line_tokens.specs.LineRanges.{name_of_club}
 use Rattle.cert_check.specs.ExpectedItems.{Expected}
 use Rattle.cert_check.specs.Machine.{with_unsettled, ending_of, whole_at, rows_of, part_of_ask}
 use Rattle.cert_check.specs.inside.Grammar.{NodeFits, line_of_node, IsRefutationPart, IsSpentPart}

@@ -12,14 +12,15 @@ use Rattle.league_core.specs.search.Zones.{is_zone_of, is_test_of, is_of_rival}
 use Rattle.league_core.specs.search.Reasons.{has_reason}
 use Rattle.cert_text.specs.Ranges.{is_test_in_range}
 use Rattle.cert_text.specs.TreeLines.{is_test_for}
-use Rattle.cert_check.specs.declared.token.Token.{Token}
-use Rattle.cert_check.specs.declared.token.Token.TheVariants.{Blank, Row, Proof, Unknown}
+use Rattle.line_tokens.specs.declared.token.Token.{Token}
+use Rattle.line_tokens.specs.declared.token.Token.TheVariants.{Blank, Row, Proof, Unknown}
 use Rattle.cert_check.specs.declared.stop.CheckStopAt.TheVariants as halt
-use Rattle.cert_check.specs.declared.expected.TreeKind.{TreeKind}
+use Rattle.line_tokens.specs.declared.tree_line.TreeKind.{TreeKind}
 use Rattle.cert_check.specs.declared.expected.Tally.{Tally}
 use Rattle.cert_check.specs.ExpectedItems.{Basis, Expected, ask_row, verdict_row}
 use Rattle.cert_check.specs.ExpectedItems.{nodes, go}
-use Rattle.cert_check.specs.ExpectedItems.{after, is_ask_row, is_path_for, is_reason_for}
+use Rattle.cert_check.specs.ExpectedItems.{after, is_ask_row, is_path_for}
+use Rattle.line_tokens.specs.LineRanges.{is_reason_for}
 use Rattle.cert_check.specs.ExpectedItems.{after_leaf}
 use Rattle.cert_check.specs.ExpectedItems.{after_node, with_fresh}
 use Rattle.cert_check.specs.Machine.{with_unsettled, by_next}

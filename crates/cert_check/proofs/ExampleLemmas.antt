@@ -12,11 +12,11 @@ use Rattle.league_core.specs.game.Sheets.{IsWithinLimits}
 use Rattle.league_core.specs.game.Ranking.{are_lots}
 use Rattle.league_core.specs.game.Questions.{holds_at}
 use Rattle.cert_text.specs.declared.proof_line.ProofLine.TheVariants as line
-use Rattle.cert_check.specs.declared.token.Token.{Token}
-use Rattle.cert_check.specs.declared.token.Token.TheVariants.{Blank, Row, Proof, Unknown}
+use Rattle.line_tokens.specs.declared.token.Token.{Token}
+use Rattle.line_tokens.specs.declared.token.Token.TheVariants.{Blank, Row, Proof, Unknown}
 use Rattle.cert_check.specs.declared.stop.CheckStopAt.{CheckStopAt}
 use Rattle.cert_check.specs.declared.stop.CheckStopAt.TheVariants as halt
-use Rattle.cert_check.specs.Tokens.{counts}
+use Rattle.line_tokens.specs.Tokens.{counts}
 use Rattle.cert_check.specs.ExpectedItems.{Basis, Expected, lots, bad, go, after, is_ending}
 use Rattle.cert_check.specs.ExpectedItems.{finish_with}
 use Rattle.cert_check.specs.ExpectedItems.{lots_if_drawn, scores_due}

@@ -10,9 +10,9 @@ use Rattle.std.proofs.lemmas.List.Folds.{list_all-append}
 use Rattle.league_core.specs.declared.memory.OutOfMemory.{OutOfMemory}
 use Rattle.league_core.specs.declared.zone.Literal.{Literal}
 use Rattle.league_core.specs.declared.zone.Test.{Test}
-use Rattle.cert_check.specs.declared.token.Token.{Token}
-use Rattle.cert_check.specs.declared.token.Token.TheVariants.{Unknown}
-use Rattle.cert_check.specs.Tokens.{token_of}
+use Rattle.line_tokens.specs.declared.token.Token.{Token}
+use Rattle.line_tokens.specs.declared.token.Token.TheVariants.{Unknown}
+use Rattle.line_tokens.specs.Tokens.{token_of}
 use Rattle.cert_check.specs.LineLists.{NumberedLine, tokens_of, text_at}
 
 -- what is read of the text of a line is what the line is among all

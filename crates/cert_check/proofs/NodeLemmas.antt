@@ -17,14 +17,16 @@ use Rattle.league_core.specs.search.Trees.{Tree, open_leaf, lent_leaf, refuted_l
 use Rattle.league_core.specs.search.Trees.{preorder, has_open}
 use Rattle.cert_text.specs.declared.proof_line.ProofLine.{ProofLine}
 use Rattle.cert_text.specs.declared.proof_line.ProofLine.TheVariants as line
-use Rattle.cert_check.specs.declared.token.Token.{Token}
-use Rattle.cert_check.specs.declared.token.Token.TheVariants.{Proof}
-use Rattle.cert_check.specs.declared.expected.TreeKind.{TreeKind}
-use Rattle.cert_check.specs.declared.expected.TreeKind.TheVariants.{Refutation, Spent}
+use Rattle.line_tokens.specs.declared.token.Token.{Token}
+use Rattle.line_tokens.specs.declared.token.Token.TheVariants.{Proof}
+use Rattle.line_tokens.specs.declared.tree_line.TreeKind.{TreeKind}
+use Rattle.line_tokens.specs.declared.tree_line.TreeKind.TheVariants.{Refutation, Spent}
 use Rattle.cert_check.specs.declared.expected.Tally.{Tally}
-use Rattle.cert_check.specs.ExpectedItems.{Basis, Expected, nodes, go, node_in, with_fresh}
+use Rattle.cert_check.specs.ExpectedItems.{Basis, Expected, nodes, go, with_fresh}
+use Rattle.line_tokens.specs.TreeNodes.{node_in}
 use Rattle.cert_check.specs.ExpectedItems.{with_open, is_tally_whole, after_leaf, after_node}
-use Rattle.cert_check.specs.ExpectedItems.{after_node_if, is_reason_for}
+use Rattle.cert_check.specs.ExpectedItems.{after_node_if}
+use Rattle.line_tokens.specs.LineRanges.{is_reason_for}
 use Rattle.cert_text.specs.TreeLines.{is_test_for}
 use Rattle.cert_check.specs.inside.Grammar.{NodeFits, TreesFit, line_of_node, lines_of_tree}
 use Rattle.cert_check.specs.inside.Grammar.{lines_of_trees, with_tree, tally_after, AreTrees}

@@ -10,21 +10,23 @@ use Rattle.league_core.specs.declared.question.Question.{Question}
 use Rattle.league_core.specs.game.Questions.{full_question}
 use Rattle.cert_text.specs.declared.proof_line.ProofLine.{ProofLine}
 use Rattle.cert_text.specs.declared.proof_line.ProofLine.TheVariants as line
-use Rattle.cert_check.specs.declared.token.Token.{Token}
-use Rattle.cert_check.specs.declared.token.Token.TheVariants.{Blank, Row, Proof, Unknown}
+use Rattle.line_tokens.specs.declared.token.Token.{Token}
+use Rattle.line_tokens.specs.declared.token.Token.TheVariants.{Blank, Row, Proof, Unknown}
 use Rattle.cert_check.specs.declared.expected.RowWord.{RowWord}
 use Rattle.cert_check.specs.declared.expected.RowWord.TheVariants.{Clinched, Lost, Possible}
 use Rattle.cert_check.specs.declared.expected.RowWord.TheVariants.{Unsettled}
 use Rattle.cert_check.specs.declared.expected.Head.{Head}
 use Rattle.cert_check.specs.declared.expected.Head.TheVariants.{RefutedTree, SpentTree, Example}
-use Rattle.cert_check.specs.declared.expected.TreeKind.TheVariants.{Refutation, Spent}
-use Rattle.cert_check.specs.Tokens.{counts}
+use Rattle.line_tokens.specs.declared.tree_line.TreeKind.TheVariants.{Refutation, Spent}
+use Rattle.line_tokens.specs.Tokens.{counts}
 use Rattle.cert_check.specs.ExpectedItems.{Basis, Expected, ask_row, verdict_row, tree_head}
 use Rattle.cert_check.specs.ExpectedItems.{spent_head}
 use Rattle.cert_check.specs.ExpectedItems.{finish_head, both_parts, one_part, nodes, score, lots}
 use Rattle.cert_check.specs.ExpectedItems.{bad, go}
-use Rattle.cert_check.specs.ExpectedItems.{is_ask_row, ask_fields, verdict_fields, name_of_club}
-use Rattle.cert_check.specs.ExpectedItems.{word_in_row, promised, same_claim, whole_tree}
+use Rattle.cert_check.specs.ExpectedItems.{is_ask_row, ask_fields, verdict_fields}
+use Rattle.line_tokens.specs.LineRanges.{name_of_club}
+use Rattle.cert_check.specs.ExpectedItems.{word_in_row, promised, whole_tree}
+use Rattle.line_tokens.specs.LineRanges.{same_claim}
 use Rattle.cert_check.specs.ExpectedItems.{whole_example}
 use Rattle.cert_check.specs.ExpectedItems.{after_tree_head, after_spent_head, after_finish_head}
 use Rattle.cert_check.specs.ExpectedItems.{after_one_part, after_both_parts, head_in, if_of_claim}

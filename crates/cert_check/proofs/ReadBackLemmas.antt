@@ -4,8 +4,8 @@ use Rattle.cert_text.specs.declared.proof_line.ProofLine.{ProofLine}
 use Rattle.cert_text.specs.Lines.{text_of_proof_line}
 use Rattle.cert_text.specs.Forms.{line_in}
 use Rattle.cert_text.proofs.ReadBackLemmas.{line_in-written}
-use Rattle.cert_check.specs.declared.token.Token.TheVariants.{Proof}
-use Rattle.cert_check.specs.Tokens.{token_of, token_of_line}
+use Rattle.line_tokens.specs.declared.token.Token.TheVariants.{Proof}
+use Rattle.line_tokens.specs.Tokens.{token_of, token_of_line}
 use Rattle.cert_check.specs.inside.WrittenLines.{IsWritable}
 
 -- it is read as the line

@@ -4,9 +4,9 @@ use Rattle.std.proofs.Common.{refl, sym, ap, ◌∙◌, subst, inl, inr, arith, 
 use Rattle.std.specs.Prelude.{◌⊎◌}
 use Rattle.std.specs.List.{list_all}
 use Rattle.std.proofs.lemmas.Bool.{false≢true, and_parts}
-use Rattle.cert_check.specs.declared.token.Token.{Token}
-use Rattle.cert_check.specs.declared.token.Token.TheVariants.{Blank, Row, Proof, Unknown}
-use Rattle.cert_check.specs.Tokens.{counts, counted_lines}
+use Rattle.line_tokens.specs.declared.token.Token.{Token}
+use Rattle.line_tokens.specs.declared.token.Token.TheVariants.{Blank, Row, Proof, Unknown}
+use Rattle.line_tokens.specs.Tokens.{counts, counted_lines}
 use Rattle.cert_check.specs.ExpectedItems.{Basis, Expected, Next, bad, go, after}
 use Rattle.cert_check.specs.Machine.{whole_at, bad_line, no_proof, short, with_unsettled, by_next}
 use Rattle.cert_check.specs.Machine.{ending_of}

@@ -13,8 +13,8 @@ use Rattle.csv.specs.declared.parser.State.TheVariants as st
 use Rattle.csv.proofs.RoundTrip.{read-write}
 use Rattle.fixture_sheet.specs.Fields.{csv_record, record_of, without_padding, unless_empty}
 use Rattle.fixture_sheet.specs.Fields.{has_return}
-use Rattle.cert_check.specs.declared.token.Token.TheVariants.{Row}
-use Rattle.cert_check.specs.Tokens.{token_of, token_of_row, token_of_record, begins_proof}
+use Rattle.line_tokens.specs.declared.token.Token.TheVariants.{Row}
+use Rattle.line_tokens.specs.Tokens.{token_of, token_of_row, token_of_record, begins_proof}
 use Rattle.cert_check.specs.inside.WrittenReports.{is_within_line, are_within_line}
 use Rattle.league_core.proofs.plain.Lists.{list_all-last}
 
@@ -176,9 +176,9 @@ row_back first second fields plain opens within whole =
     (next_record default_config st.StartRecord [] [] text)) plain
     ∙ ap (option_map (λ (r : Read). r.0))
     (cut_read st.StartRecord [] [] body row written within) in
-    ap (λ b. cond b (Rattle.cert_check.specs.Tokens.token_of_line
+    ap (λ b. cond b (Rattle.line_tokens.specs.Tokens.token_of_line
     (Rattle.cert_text.specs.Forms.line_in body)) (token_of_row body)) opens
-    ∙ ap (λ b. cond b Rattle.cert_check.specs.declared.token.Token.TheVariants.Unknown
+    ∙ ap (λ b. cond b Rattle.line_tokens.specs.declared.token.Token.TheVariants.Unknown
     (token_of_record (record_of body))) (no_return body (body_within row within))
     ∙ ap (λ found. token_of_record
     (option_and_then (λ fields. unless_empty (without_padding fields)) found)) read

@@ -16,8 +16,8 @@ use Rattle.league_core.proofs.OptionLemmas.{same_score-true, same_score-itself}
 use Rattle.cert_text.specs.declared.proof_line.ProofLine.{ProofLine}
 use Rattle.cert_text.specs.declared.proof_line.ProofLine.TheVariants as line
 use Rattle.cert_text.specs.ExampleLines.{score_lines, lots_line}
-use Rattle.cert_check.specs.declared.token.Token.{Token}
-use Rattle.cert_check.specs.declared.token.Token.TheVariants.{Proof}
+use Rattle.line_tokens.specs.declared.token.Token.{Token}
+use Rattle.line_tokens.specs.declared.token.Token.TheVariants.{Proof}
 use Rattle.cert_check.specs.ExpectedItems.{Basis, Expected, score, lots, go, scores_due, is_ending}
 use Rattle.cert_check.specs.ExpectedItems.{finish_with}
 use Rattle.cert_check.specs.ExpectedItems.{after_score, after_lots}

@@ -17,17 +17,17 @@ use Rattle.league_core.proofs.ClubSetLemmas.{has_club-range}
 use Rattle.league_core.proofs.ClubLemmas.{all_members}
 use Rattle.reason_laws.specs.inside.Refutations.{IsRefutedLeaf}
 use Rattle.reason_laws.proofs.RefutationLemmas.{refutation_shows}
-use Rattle.cert_check.specs.declared.token.Token.{Token}
+use Rattle.line_tokens.specs.declared.token.Token.{Token}
 use Rattle.cert_check.specs.declared.expected.RowWord.{RowWord}
 use Rattle.cert_check.specs.declared.expected.RowWord.TheVariants.{Clinched, Lost, Possible}
 use Rattle.cert_check.specs.declared.expected.RowWord.TheVariants.{Unsettled}
-use Rattle.cert_check.specs.declared.expected.TreeKind.TheVariants.{Refutation}
+use Rattle.line_tokens.specs.declared.tree_line.TreeKind.TheVariants.{Refutation}
 use Rattle.cert_check.specs.ExpectedItems.{Basis, Expected, ask_row, verdict_row, finish_with}
 use Rattle.cert_check.specs.Machine.{rows_on_line, part_of_ask}
 use Rattle.cert_check.specs.inside.Grammar.{NodeFits, TreesFit, IsRefutationPart, IsExamplePart}
 use Rattle.cert_check.specs.inside.Grammar.{IsAfterReport, AreParts}
 use Rattle.std.proofs.Common.{drop}
-use Rattle.cert_check.specs.Tokens.{counted_lines}
+use Rattle.line_tokens.specs.Tokens.{counted_lines}
 use Rattle.cert_check.specs.LineLists.{NumberedLine, tokens_of}
 use Rattle.cert_check.specs.Machine.{whole_at}
 use Rattle.cert_check.specs.inside.Truths.{IsSaidTruly, AreTrueRows}

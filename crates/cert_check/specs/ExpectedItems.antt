@@ -1,8 +1,8 @@
 -- What must come yet in a report, by what a part is judged, and what each line that may come leaves
 -- due in its place. The forms and their order are this project's own.
-use Rattle.std.specs.Prelude.{ℕ, ◌+◌, Bool, true, false, not, ◌&&◌, ◌==◌, nat_lt, nat_le}
-use Rattle.std.specs.Prelude.{List, [], ◌∷◌, ◌++◌, length, map, Option, Some, None, codes, decimal}
-use Rattle.std.specs.Prelude.{bytes_eq, if◌then◌else◌, get_or}
+use Rattle.std.specs.Prelude.{ℕ, ◌+◌, Bool, true, false, not, ◌&&◌, ◌==◌, nat_le}
+use Rattle.std.specs.Prelude.{List, [], ◌∷◌, ◌++◌, length, Option, Some, None, codes, decimal}
+use Rattle.std.specs.Prelude.{bytes_eq, if◌then◌else◌}
 use Rattle.std.specs.List.{list_all}
 use Rattle.league_core.specs.declared.sheet.Sheet.{Sheet}
 use Rattle.league_core.specs.declared.season.Score.{Score}
@@ -11,30 +11,29 @@ use Rattle.league_core.specs.declared.question.Claim.TheVariants.{Inside, Outsid
 use Rattle.league_core.specs.declared.question.Question.{Question}
 use Rattle.league_core.specs.declared.zone.Test.{Test}
 use Rattle.league_core.specs.declared.zone.Literal.{Literal}
-use Rattle.league_core.specs.declared.zone.Reason.{Reason}
-use Rattle.league_core.specs.declared.zone.Reason.TheVariants.{Count, Window, Low, High, Tie}
 use Rattle.league_core.specs.declared.tree.TreeNode.{TreeNode}
 use Rattle.league_core.specs.declared.tree.TreeNode.TheVariants as node
 use Rattle.league_core.specs.game.Results.{Results}
-use Rattle.league_core.specs.game.ClubSets.{clubs_in}
 use Rattle.league_core.specs.game.Ranking.{are_lots}
 use Rattle.league_core.specs.game.Questions.{holds_at, full_question}
 use Rattle.league_core.specs.search.Zones.{with_test}
-use Rattle.league_core.specs.search.Reasons.{has_member, has_reason}
+use Rattle.league_core.specs.search.Reasons.{has_reason}
 use Rattle.cert_text.specs.declared.proof_line.ProofLine.{ProofLine}
 use Rattle.cert_text.specs.declared.proof_line.ProofLine.TheVariants as line
 use Rattle.fixture_sheet.specs.Fields.{field}
 use Rattle.cert_text.specs.TreeLines.{is_test_for}
-use Rattle.cert_check.specs.declared.token.Token.{Token}
-use Rattle.cert_check.specs.declared.token.Token.TheVariants.{Blank, Row, Proof, Unknown}
+use Rattle.line_tokens.specs.declared.token.Token.{Token}
+use Rattle.line_tokens.specs.declared.token.Token.TheVariants.{Blank, Row, Proof, Unknown}
 use Rattle.cert_check.specs.declared.expected.RowWord.{RowWord}
 use Rattle.cert_check.specs.declared.expected.RowWord.TheVariants.{Clinched, Lost, Possible}
 use Rattle.cert_check.specs.declared.expected.RowWord.TheVariants.{Unsettled}
 use Rattle.cert_check.specs.declared.expected.Head.{Head}
 use Rattle.cert_check.specs.declared.expected.Head.TheVariants.{RefutedTree, SpentTree, Example}
-use Rattle.cert_check.specs.declared.expected.TreeKind.{TreeKind}
-use Rattle.cert_check.specs.declared.expected.TreeKind.TheVariants.{Refutation, Spent}
+use Rattle.line_tokens.specs.declared.tree_line.TreeKind.{TreeKind}
+use Rattle.line_tokens.specs.declared.tree_line.TreeKind.TheVariants.{Refutation, Spent}
 use Rattle.cert_check.specs.declared.expected.Tally.{Tally}
+use Rattle.line_tokens.specs.LineRanges.{name_of_club, is_reason_for, same_claim}
+use Rattle.line_tokens.specs.TreeNodes.{node_in}
 
 -- what a part of a report is judged by: the sheet, and the season and the epoch of its ask
 pub record Basis : Type 0 where
@@ -65,10 +64,6 @@ pub data Next : Type 0 where
   go : Bool → List Expected → Next
 
 -- ---- rows
-
--- the name of a club
-abbrev pub name_of_club : Sheet → ℕ → List ℕ
-name_of_club sheet club = get_or (map (λ it. it.name) sheet.clubs) club []
 
 -- `ask,E`
 abbrev pub ask_fields : ℕ → List (List ℕ)
@@ -121,44 +116,11 @@ word_in_row line name fields = word_if_about (is_row_about line name fields) (fi
 abbrev pub is_path_for : Sheet → Question → List Literal → Bool
 is_path_for sheet question zone = list_all (λ it. is_test_for sheet question it.test) zone
 
--- a set of clubs of the sheet without the question's own, with a member
-abbrev pub is_set_for : Sheet → Question → List ℕ → Bool
-is_set_for sheet question clubs =
-    has_member clubs
-    && list_all (λ club. nat_lt club (length sheet.clubs) && not (club == question.club)) clubs
-
--- a reason that a leaf of a tree for the question may have
-abbrev pub is_reason_for : Sheet → Question → Reason → Bool
-is_reason_for sheet question Count = true
-is_reason_for sheet question Window = true
-is_reason_for sheet question (Low set) = is_set_for sheet question (clubs_in set)
-is_reason_for sheet question (High set) = is_set_for sheet question (clubs_in set)
-is_reason_for sheet question Tie = true
-
 -- a score with which an unplayed match may end
 abbrev pub is_ending : Sheet → Score → Bool
 is_ending sheet ending = nat_le ending.home sheet.goal_limit && nat_le ending.away sheet.goal_limit
 
--- both claims are the same
-abbrev pub same_claim : Claim → Claim → Bool
-same_claim Inside Inside = true
-same_claim Inside Outside = false
-same_claim Outside Inside = false
-same_claim Outside Outside = true
-
 -- ---- trees
-
--- the node that a line of a tree stands for, if trees of this kind have such a line
-abbrev pub node_in : TreeKind → ProofLine → Option TreeNode
-node_in Refutation (line.Split test) = Some (node.Split test false)
-node_in Refutation (line.Leaf reason) = Some (node.Refuted reason false)
-node_in Refutation _ = None
-node_in Spent (line.Split test) = Some (node.Split test false)
-node_in Spent (line.NewSplit test) = Some (node.Split test true)
-node_in Spent (line.Leaf reason) = Some (node.Refuted reason false)
-node_in Spent (line.NewLeaf reason) = Some (node.Refuted reason true)
-node_in Spent line.OpenLeaf = Some node.Open
-node_in Spent _ = None
 
 -- one new node more, if the node is new
 abbrev pub with_fresh : Bool → Tally → Tally

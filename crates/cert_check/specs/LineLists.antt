@@ -1,7 +1,7 @@
 -- The lines of a report in their order, each with its number in the input.
 use Rattle.std.specs.Prelude.{ℕ, List, [], map, slice_index_or}
-use Rattle.cert_check.specs.declared.token.Token.{Token}
-use Rattle.cert_check.specs.Tokens.{token_of}
+use Rattle.line_tokens.specs.declared.token.Token.{Token}
+use Rattle.line_tokens.specs.Tokens.{token_of}
 
 -- a line without its end, and its number
 pub record NumberedLine : Type 0 where

@@ -6,8 +6,8 @@ use Rattle.std.specs.List.{flat_map}
 use Rattle.league_core.specs.declared.sheet.Sheet.{Sheet}
 use Rattle.league_core.specs.game.Sheets.{clubs_of}
 use Rattle.league_core.specs.game.Results.{Results}
-use Rattle.cert_check.specs.declared.token.Token.{Token}
-use Rattle.cert_check.specs.declared.token.Token.TheVariants.{Blank, Row, Proof, Unknown}
+use Rattle.line_tokens.specs.declared.token.Token.{Token}
+use Rattle.line_tokens.specs.declared.token.Token.TheVariants.{Blank, Row, Proof, Unknown}
 use Rattle.cert_check.specs.ExpectedItems.{Basis, Expected, ask_row, verdict_row, Next, bad, go}
 use Rattle.cert_check.specs.ExpectedItems.{after}
 use Rattle.cert_check.specs.LineLists.{NumberedLine, tokens_of}

@@ -20,7 +20,7 @@ use Rattle.result_log.specs.declared.entry.Entry.TheVariants.{Change, Ask, Proof
 use Rattle.result_log.specs.declared.fault.FeedStop.{FeedStop}
 use Rattle.result_log.specs.declared.fault.FeedStop.TheVariants as feed_stop
 use Rattle.result_log.specs.Feeds.{Feed, feed_of, season_with, count_with}
-use Rattle.cert_check.specs.Tokens.{token_of, counts}
+use Rattle.line_tokens.specs.Tokens.{token_of, counts}
 use Rattle.cert_check.specs.LineLists.{NumberedLine, line_number_at}
 use Rattle.cert_check.specs.Machine.{Ending, whole_at, bad_line, no_proof, short}
 use Rattle.cert_check.specs.Machine.{basis_of, part_ending}

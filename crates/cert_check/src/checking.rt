@@ -12,9 +12,9 @@ use crate::item::PartRead;
 use crate::line_list::LineList;
 use crate::report::Report;
 use crate::stop::{Accepted, CheckStop, CheckStopAt};
-use crate::token::counts;
 use check_bounds::Trail;
 use league_core::{Season, Sheet};
+use line_tokens::counts;
 use std::alloc::Global;
 
 /// Checks the lines from a position on, from 0, as the part of a report that answers one ask of a

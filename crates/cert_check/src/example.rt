@@ -6,7 +6,7 @@ ghost use Rattle.league_core.specs.game.Questions.{IsQuestionOf, holds_at};
 ghost use Rattle.league_core.specs.game.Questions as questions;
 ghost use Rattle.league_core.specs.game.Ranking.{are_lots};
 ghost use Rattle.league_core.specs.game.Sums as sums;
-ghost use Rattle.cert_check.specs.Tokens.{counts};
+ghost use Rattle.line_tokens.specs.Tokens.{counts};
 ghost use Rattle.cert_check.specs.ExpectedItems.{after, score, lots, whole_example};
 ghost use Rattle.cert_check.specs.ExpectedItems as dues;
 ghost use Rattle.cert_check.specs.inside.Calls.{Goes, GoesOverFixture, after_score_if};
@@ -15,10 +15,10 @@ ghost use Rattle.cert_check.specs.inside.Calls.{lots_of_token, IsOver};
 use crate::ranges::is_ending;
 use crate::report::Report;
 use crate::stop::CheckStopAt;
-use crate::token::Token;
 use cert_text::ProofLine;
 use final_rank::place;
 use league_core::{Event, Lots, OutOfMemory, Question, Score, Season};
+use line_tokens::Token;
 use tie_criteria::points_of;
 
 impl<'a> Report<'a> {

@@ -9,15 +9,6 @@ pub enum RowWord {
     Unsettled,
 }
 
-/// What a tree in a report stands for.
-#[derive(Clone, Copy)]
-pub enum TreeKind {
-    /// Each leaf is refuted; no node is marked new.
-    Refutation,
-    /// The budget was spent on it, and a leaf is open.
-    Spent,
-}
-
 /// What was counted in a tree so far.
 #[derive(Clone, Copy)]
 pub struct Tally {

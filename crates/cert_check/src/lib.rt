@@ -27,11 +27,10 @@ mod ranges;
 mod report;
 mod row;
 mod stop;
-mod token;
 mod tree;
 
 pub use checking::{check, check_end};
-pub use expected::{Head, RowWord, Tally, TreeKind};
+pub use expected::{Head, RowWord, Tally};
 pub use feed::{FeedRead, FeedSoFar, read_feed};
 pub use input_laws::{
     accepted_inputs_tell_truly, written_lines_read_back, written_reports_read_back,
@@ -44,8 +43,5 @@ pub use laws::{
 pub use line_list::LineList;
 pub use lines::{LinesStop, ReportLines, read_lines};
 pub use outcome::{CheckFailure, CheckOutcome, ReportFault};
-pub use ranges::{is_reason_for, is_test_for};
 pub use report::Report;
 pub use stop::{Accepted, CheckStop, CheckStopAt};
-pub use token::{Token, read_token};
-pub use tree::node_of;

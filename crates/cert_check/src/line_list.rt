@@ -6,8 +6,8 @@ ghost use Rattle.cert_check.specs.LineLists.{line_number_at, text_at, tokens_of}
 ghost use Rattle.cert_check.specs.inside.LineBlocks.{IsFilled, block_length, lines_of_blocks};
 
 use crate::line_block::LineBlock;
-use crate::token::{Token, read_token};
 use league_core::OutOfMemory;
+use line_tokens::{Token, read_token};
 use std::alloc::Global;
 use std::marker::Model;
 use std::mem;

@@ -9,9 +9,9 @@ ghost use Rattle.cert_check.specs.inside.Calls.{IsNextAt, FindsNext};
 
 use crate::line_list::LineList;
 use crate::stop::CheckStopAt;
-use crate::token::{Token, counts};
 use check_bounds::Trail;
 use league_core::{OutOfMemory, Season, Sheet};
+use line_tokens::{Token, counts};
 use std::alloc::Global;
 use std::marker::Model;
 

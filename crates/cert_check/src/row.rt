@@ -4,9 +4,9 @@ ghost use Rattle.std.specs.Prelude.{◌≡◌, ◌<◌, ◌≤◌, ◌+◌, ◌=
 ghost use Rattle.std.specs.Prelude.{IsTrue, IfOk, IfSome, length};
 ghost use Rattle.std.specs.Prelude.{bytes_eq, codes, string_bytes, decimal};
 ghost use Rattle.fixture_sheet.specs.Fields.{field};
-ghost use Rattle.cert_check.specs.Tokens.{counts};
+ghost use Rattle.line_tokens.specs.Tokens.{counts};
 ghost use Rattle.cert_check.specs.ExpectedItems.{ask_row, verdict_row, promised, after};
-ghost use Rattle.cert_check.specs.ExpectedItems.{name_of_club};
+ghost use Rattle.line_tokens.specs.LineRanges.{name_of_club};
 ghost use Rattle.cert_check.specs.ExpectedItems as dues;
 ghost use Rattle.cert_check.specs.Machine.{with_unsettled};
 ghost use Rattle.cert_check.specs.inside.Calls.{Goes, GoesByWord, after_ask_row_if, unsettled_in};
@@ -14,9 +14,9 @@ ghost use Rattle.cert_check.specs.inside.Calls.{Goes, GoesByWord, after_ask_row_
 use crate::expected::RowWord;
 use crate::report::Report;
 use crate::stop::CheckStopAt;
-use crate::token::Token;
 use fixture_sheet::Fields;
 use league_core::OutOfMemory;
+use line_tokens::Token;
 use std::alloc::{AllocError, Global};
 
 impl<'a> Report<'a> {

@@ -3,22 +3,20 @@
 ghost use Rattle.std.specs.Prelude.{◌≡◌, ◌<◌, ◌≤◌, ◌+◌, ◌^◌, IsTrue, OnOk, true, length};
 ghost use Rattle.league_core.specs.game.Questions.{IsQuestionOf};
 ghost use Rattle.league_core.specs.search.Reasons as reasons;
-ghost use Rattle.cert_check.specs.Tokens.{counts};
+ghost use Rattle.line_tokens.specs.Tokens.{counts};
 ghost use Rattle.cert_check.specs.ExpectedItems.{whole_tree, after};
 ghost use Rattle.cert_check.specs.ExpectedItems as dues;
-ghost use Rattle.cert_check.specs.inside.Calls.{Goes, NodeSays, nodes_due, node_of_token};
+ghost use Rattle.cert_check.specs.inside.Calls.{Goes, NodeSays, nodes_due};
 ghost use Rattle.league_core.specs.inside.Pending.{pending_of};
 ghost use Rattle.cert_check.specs.inside.Calls.{IsPathFor, after_walked};
 
-use crate::expected::{Tally, TreeKind};
+use crate::expected::Tally;
 use crate::path::next_half;
-use crate::ranges::{is_reason_for, is_test_for};
 use crate::report::Report;
 use crate::stop::CheckStopAt;
-use crate::token::Token;
-use cert_text::ProofLine;
 use check_bounds::Trail;
 use league_core::{Literal, Question, Reason, Test, TreeNode};
+use line_tokens::{Token, TreeKind, is_reason_for, is_test_for, node_of};
 
 // What kind of tree, for which question.
 #[derive(Clone, Copy)]
@@ -191,57 +189,5 @@ fn is_tally_whole(budget: u32, kind: TreeKind, tally: Tally) -> bool
     match kind {
         TreeKind::Refutation => true,
         TreeKind::Spent => tally.news == budget as usize && tally.some_open,
-    }
-}
-
-/// The node of a tree of this kind that a line stands for.
-pub fn node_of(kind: TreeKind, token: &Token) -> Option<TreeNode>
-    ensures { result ≡ node_of_token kind token.now }
-{
-    match token {
-        Token::Proof(line) => match kind {
-            TreeKind::Refutation => refutation_node(line),
-            TreeKind::Spent => spent_node(line),
-        },
-        _ => None,
-    }
-}
-
-fn refutation_node(line: &ProofLine) -> Option<TreeNode>
-    ensures { result ≡ dues.node_in TreeKind.Refutation line.now }
-{
-    let fresh = false;
-    match line {
-        ProofLine::Split(test) => Some(TreeNode::Split { test: *test, fresh }),
-        ProofLine::Leaf(reason) => Some(TreeNode::Refuted {
-            reason: *reason,
-            fresh,
-        }),
-        _ => None,
-    }
-}
-
-fn spent_node(line: &ProofLine) -> Option<TreeNode>
-    ensures { result ≡ dues.node_in TreeKind.Spent line.now }
-{
-    match line {
-        ProofLine::Split(test) => Some(TreeNode::Split {
-            test: *test,
-            fresh: false,
-        }),
-        ProofLine::NewSplit(test) => Some(TreeNode::Split {
-            test: *test,
-            fresh: true,
-        }),
-        ProofLine::Leaf(reason) => Some(TreeNode::Refuted {
-            reason: *reason,
-            fresh: false,
-        }),
-        ProofLine::NewLeaf(reason) => Some(TreeNode::Refuted {
-            reason: *reason,
-            fresh: true,
-        }),
-        ProofLine::OpenLeaf => Some(TreeNode::Open),
-        _ => None,
     }
 }

@@ -12,6 +12,11 @@ pub enum Mode {
     Scores,
     /// At each match that is asked about, what its outcome would decide.
     WhatIf,
+    /// No ask is answered; at the end the trees of all questions are written as a saved text.
+    Save,
+    /// A saved text goes on: the asks of the feed before it are not answered, and each ask of the
+    /// feed after it is answered as `Verdicts` does.
+    Resume { proofs: bool },
     /// A report of verdicts is checked.
     Check,
     /// The verdicts of the league that this number gives are counted. No input is read.

@@ -93,6 +93,10 @@ fn mode_named(word: &str, proofs: bool, seed: u64) -> Option<Mode>
         Some(Mode::Scores)
     } else if word == "whatif" {
         Some(Mode::WhatIf)
+    } else if word == "save" {
+        Some(Mode::Save)
+    } else if word == "resume" {
+        Some(Mode::Resume { proofs })
     } else if word == "check" {
         Some(Mode::Check)
     } else if word == "sample" {

@@ -1,6 +1,6 @@
 -- A turn after a round, or after the sheet: where it leads, by what ended the round, or came in
 -- place of a sheet.
-use Rattle.std.proofs.Common.{◌≡◌, ℕ, Bool, List, Option, Err, refl, sym, ◌∙◌, subst}
+use Rattle.std.proofs.Common.{◌≡◌, ℕ, Bool, List, Option, None, Err, refl, sym, ◌∙◌, subst}
 use Rattle.league_core.specs.declared.sheet.Sheet.{Sheet}
 use Rattle.port_core.specs.declared.line.ReadStop.TheVariants as read_stop
 use Rattle.port_core.specs.Readers.{LineReaderView, TakesInput, stream_of}
@@ -12,6 +12,7 @@ use Rattle.fixture_sheet.specs.inside.SheetReads.{StopsAtSheet}
 use Rattle.result_log.specs.declared.fault.FeedStop.{FeedStop}
 use Rattle.result_log.specs.declared.fault.FeedStop.TheVariants as feed_stop
 use Rattle.result_log.specs.inside.Calls.{CountsEntry, MovesToEntry}
+use Rattle.result_log.specs.inside.FeedParts.{LiveReading}
 use Rattle.result_log.specs.inside.Rounds.{EndsRound, Spot}
 use Rattle.result_log.specs.inside.LastReads.{GivesEvents, StopsAtClose}
 use Rattle.branch_pool.specs.inside.States.{PoolView}
@@ -27,13 +28,16 @@ use Rattle.futmax_main.specs.declared.session.Step.{Step}
 use Rattle.futmax_main.specs.declared.session.Step.TheVariants.{GoesOn, Ends}
 use Rattle.futmax_main.specs.LastReads.{StopsSession, fresh_reader}
 use Rattle.futmax_main.specs.inside.TurnReads.{HasComeToPool, TurnStops}
-use Rattle.futmax_main.specs.inside.Progress.{IsOriginOf, PathToPool, line_after}
+use Rattle.futmax_main.specs.Courses.{saved_at}
+use Rattle.futmax_main.specs.inside.Progress.{IsOriginOf, PathToPool, line_after, round_line}
+use Rattle.futmax_main.specs.inside.RoundHalts.{IsReportedIn}
 use Rattle.futmax_main.specs.inside.Stops.{CountsEnd, CountsStop, StopEnds, stop_of_feed}
 use Rattle.futmax_main.specs.inside.Stops.{stop_of_sheet}
 use Rattle.futmax_main.specs.inside.Halts.{IsAboutAt}
 use Rattle.futmax_main.specs.inside.Turns.{CloseGives, CountsClose, CountsTurn, TurnCounts}
 use Rattle.futmax_main.specs.inside.Turns.{TurnGives, TurnGoesOn, TurnIsLive}
-use Rattle.futmax_main.proofs.LastReadLemmas.{round-goes_on, round-stops, sheet-ends}
+use Rattle.futmax_main.proofs.LastReadLemmas.{feed-stops, round-goes_on, round-stops, sheet-ends}
+use Rattle.futmax_main.proofs.OriginLemmas.{origin-next, origin-reads}
 use Rattle.futmax_main.proofs.RoundLemmas.{round-ask, round-end, round-stop}
 
 -- ---- the way
@@ -44,18 +48,18 @@ module _ (mode : Mode) (input : Option (List ℕ)) (told0 : Bool) (pool next : P
     from.reader.position pool old now0) where
   -- whatever ended the round, from the origin of the way
   origin-gives : (end : RoundEnd) (turn : Step)
-      → EndsRound (line_after mode path.0.sheet) pool.log next.log from to (close_of end)
-      → IsOriginOf path.0 next → IsAboutAt mode end to.reader.text about
+      → EndsRound (line_after mode path.0) pool.log next.log from to (close_of end)
+      → IsOriginOf mode path.0 next → IsAboutAt mode end to.reader.text about
       → CloseGives mode next about end now0 now1 turn
       → TurnGives mode input told0 (stream_of to.reader to.left) to.ended to.reader.position
       to.left old now1 turn
   origin-gives Ask turn ends of_pool about_is gives =
       round-ask mode input told0 path.0 pool.log next.log from to old now0 path.2 next about now1
-      turn ends refl of_pool about_is gives
+      turn ends refl of_pool about_is (gives (saved_at path.0 next.log) of_pool.kept)
   origin-gives End (GoesOn other) ends of_pool about_is gives = absurd gives
   origin-gives End (Ends status) ends of_pool about_is gives =
-      round-end mode input told0 path.0 pool.log next.log from to old now0 path.2 now1 status
-      ends gives.0 gives.1
+      round-end mode input told0 path.0 pool.log next.log from to old now0 path.2 next now1 status
+      ends refl of_pool gives
   origin-gives (Stop stop) (GoesOn other) ends of_pool about_is gives = absurd gives
   origin-gives (Stop stop) (Ends status) ends of_pool about_is gives =
       round-stop mode input told0 path.0 pool.log next.log from to old now0 path.2 stop now1
@@ -63,15 +67,16 @@ module _ (mode : Mode) (input : Option (List ℕ)) (told0 : Bool) (pool next : P
 
   -- from the pool before it
   pub close-gives : (end : RoundEnd) (turn : Step)
-      → EndsRound (line_after mode pool.sheet) pool.log next.log from to (close_of end)
-      → next.sheet ≡ pool.sheet → IsAboutAt mode end to.reader.text about
-      → CloseGives mode next about end now0 now1 turn
+      → EndsRound (round_line mode pool.sheet) pool.log next.log from to (close_of end)
+      → next.sheet ≡ pool.sheet → IsReportedIn mode pool next
+      → IsAboutAt mode end to.reader.text about → CloseGives mode next about end now0 now1 turn
       → TurnGives mode input told0 (stream_of to.reader to.left) to.ended to.reader.position
       to.left old now1 turn
-  close-gives end turn ends same about_is gives =
-      let P : Sheet → Type 0 =
-      λ s. EndsRound (line_after mode s) pool.log next.log from to (close_of end) in
-      origin-gives end turn (subst P (sym path.1) ends) (path.1 ∙ sym same) about_is gives
+  close-gives end turn ends same reported about_is gives =
+      let P : LiveReading → Type 0 =
+      λ live. EndsRound live pool.log next.log from to (close_of end) in
+      origin-gives end turn (subst P (sym (origin-reads mode path.0 pool path.1)) ends)
+      (origin-next mode path.0 pool next path.1 same reported) about_is gives
 
 -- ---- how it goes on
 
@@ -82,7 +87,7 @@ pub close-goes_on : (mode : Mode) (pool : PoolView) (about : Option ℕ) (end : 
     → CloseGives mode pool about end old now turn
     → TurnGoesOn mode sheet reader.position.bytes new.position.bytes turn
 close-goes_on mode pool about Ask old now (GoesOn next) reader new sheet same moves live gives =
-    (live, gives.0.0 ∙ same, moves.0, moves.1)
+    (live, (gives None tt).0.0 ∙ same, moves.0, moves.1)
 close-goes_on mode pool about End old now (GoesOn next) reader new sheet same moves live gives =
     absurd gives
 close-goes_on mode pool about (Stop stop) old now (GoesOn next) reader new sheet same moves live
@@ -92,7 +97,7 @@ close-goes_on mode pool about end old now (Ends status) reader new sheet same mo
 -- ---- the counts of faults
 
 -- a run that ends, if the source did not fail
-end-counts : (reads reads' writes writes' : ℕ) (status : Status) → reads' ≡ reads
+pub end-counts : (reads reads' writes writes' : ℕ) (status : Status) → reads' ≡ reads
     → CountsEnd writes writes' status → TurnCounts reads reads' writes writes' (Ends status)
 end-counts reads reads' writes writes' Done same counts = ((same, counts), tt)
 end-counts reads reads' writes writes' BadWords same counts = absurd counts
@@ -140,8 +145,7 @@ close-counts reads reads' writes writes' Ask turn same counts =
     ask-counts reads reads' writes writes' turn same counts
 close-counts reads reads' writes writes' End (GoesOn next) same counts = absurd counts
 close-counts reads reads' writes writes' End (Ends status) same counts =
-    let P : Status → Type 0 = λ s. TurnCounts reads reads' writes writes' (Ends s) in
-    subst P (sym counts.0) ((same, counts.1), tt)
+    end-counts reads reads' writes writes' status same counts
 close-counts reads reads' writes writes' (Stop stop) (GoesOn next) cause counts = absurd counts
 close-counts reads reads' writes writes' (Stop stop) (Ends status) cause counts =
     stop-counts reads reads' writes writes' stop status cause counts
@@ -153,7 +157,7 @@ module _ {S : Type 0} (left : S → Option (List ℕ)) (reads : S → List ℕ �
     (come : HasComeToPool left reads mode first reader before pool) where
   -- whatever was read of a round from the origin of the way
   origin-stops : (status : Status)
-      → ReadsOnWay left reads (GivesEvents (line_after mode come.0.sheet) pool.log) reader new
+      → ReadsOnWay left reads (GivesEvents (line_after mode come.0) pool.log) reader new
       before after
       → StopsSession left reads mode first after status
   origin-stops status ways =
@@ -162,28 +166,28 @@ module _ {S : Type 0} (left : S → Option (List ℕ)) (reads : S → List ℕ �
 
   -- a stop of the feed
   stop-last : (stop : FeedStop) (old now : Option (List ℕ)) (status : Status)
-      → StopsAtClose left reads (line_after mode come.0.sheet) pool.log reader new before after
+      → StopsAtClose left reads (line_after mode come.0) pool.log reader new before after
       (Err stop)
       → StopEnds (stop_of_feed stop) old now status
       → StopsSession left reads mode first after status
-  stop-last (feed_stop.Read read_stop.ReadFault) old now status ways stops =
-      let P : Status → Type 0 = λ s. StopsSession left reads mode first after s in
-      subst P (sym stops.0) tt
-  stop-last stop old now status ways stops = origin-stops status ways
+  stop-last stop old now status ways stops =
+      feed-stops left reads first reader new before after mode come.0 pool.log come.2 stop ways old
+      now status stops
 
   -- whatever ended the round
   origin-last : (next : PoolView) (about : Option ℕ) (end : RoundEnd) (old now : Option (List ℕ))
       (turn : Step) (x y : Bool) (m n : ℕ)
-      → EndsRound (line_after mode come.0.sheet) pool.log next.log
+      → EndsRound (line_after mode come.0) pool.log next.log
       (record { reader = reader; left = left before; ended = x; faults = m })
       (record { reader = new; left = left after; ended = y; faults = n }) (close_of end)
-      → StopsAtClose left reads (line_after mode come.0.sheet) pool.log reader new before after
+      → StopsAtClose left reads (line_after mode come.0) pool.log reader new before after
       (close_of end)
-      → IsOriginOf come.0 next → CloseGives mode next about end old now turn
+      → IsOriginOf mode come.0 next → CloseGives mode next about end old now turn
       → TurnStops left reads mode first new after turn
   origin-last next about Ask old now turn x y m n ends ways of_pool gives =
       round-goes_on left reads first reader new before after mode come.0 pool.log come.2 ways
-      next about old now turn x y m n ends of_pool gives
+      next about old now turn x y m n ends of_pool
+      (gives (saved_at come.0 next.log) of_pool.kept)
   origin-last next about End old now (GoesOn other) x y m n ends ways of_pool gives =
       absurd gives
   origin-last next about End old now (Ends status) x y m n ends ways of_pool gives =
@@ -196,33 +200,33 @@ module _ {S : Type 0} (left : S → Option (List ℕ)) (reads : S → List ℕ �
   -- from the pool before it
   pub close-last : (next : PoolView) (about : Option ℕ) (end : RoundEnd)
       (old now : Option (List ℕ)) (turn : Step) (x y : Bool) (m n : ℕ)
-      → EndsRound (line_after mode pool.sheet) pool.log next.log
+      → EndsRound (round_line mode pool.sheet) pool.log next.log
       (record { reader = reader; left = left before; ended = x; faults = m })
       (record { reader = new; left = left after; ended = y; faults = n }) (close_of end)
-      → StopsAtClose left reads (line_after mode pool.sheet) pool.log reader new before after
+      → StopsAtClose left reads (round_line mode pool.sheet) pool.log reader new before after
       (close_of end)
-      → next.sheet ≡ pool.sheet → CloseGives mode next about end old now turn
+      → next.sheet ≡ pool.sheet → IsReportedIn mode pool next
+      → CloseGives mode next about end old now turn
       → TurnStops left reads mode first new after turn
-  close-last next about end old now turn x y m n ends ways same gives =
-      let P : Sheet → Type 0 =
-      λ s. EndsRound (line_after mode s) pool.log next.log
+  close-last next about end old now turn x y m n ends ways same reported gives =
+      let P : LiveReading → Type 0 =
+      λ live. EndsRound live pool.log next.log
       (record { reader = reader; left = left before; ended = x; faults = m })
       (record { reader = new; left = left after; ended = y; faults = n }) (close_of end) in
-      let Q : Sheet → Type 0 =
-      λ s. StopsAtClose left reads (line_after mode s) pool.log reader new before after
-      (close_of end) in
-      origin-last next about end old now turn x y m n (subst P (sym come.1) ends)
-      (subst Q (sym come.1) ways) (come.1 ∙ sym same) gives
+      let Q : LiveReading → Type 0 =
+      λ live. StopsAtClose left reads live pool.log reader new before after (close_of end) in
+      let reads_so = sym (origin-reads mode come.0 pool come.1) in
+      origin-last next about end old now turn x y m n (subst P reads_so ends)
+      (subst Q reads_so ways) (origin-next mode come.0 pool next come.1 same reported) gives
 
   -- where no memory was found
-  pub starved-last : ReadsOnWay left reads (GivesEvents (line_after mode pool.sheet) pool.log)
+  pub starved-last : ReadsOnWay left reads (GivesEvents (round_line mode pool.sheet) pool.log)
       reader new before after
       → (status : Status) → StopsSession left reads mode first after status
   starved-last ways status =
-      let P : Sheet → Type 0 =
-      λ s. ReadsOnWay left reads (GivesEvents (line_after mode s) pool.log) reader new before
-      after in
-      origin-stops status (subst P (sym come.1) ways)
+      let P : LiveReading → Type 0 =
+      λ live. ReadsOnWay left reads (GivesEvents live pool.log) reader new before after in
+      origin-stops status (subst P (sym (origin-reads mode come.0 pool come.1)) ways)
 
 module _ {S : Type 0} (left : S → Option (List ℕ)) (reads : S → List ℕ → S → Type 0)
     (mode : Mode) (reader new : LineReaderView) (before after : S) (fresh : reader ≡ fresh_reader)

@@ -1,4 +1,4 @@
--- Four worked inputs, one for each status that a session may have; and what the status of a run
+-- Worked inputs, one for each status that a session may have; and what the status of a run
 -- says, whether or not the source tells its bytes.
 use Rattle.std.proofs.Common.{◌≡◌, ◌≢◌, ℕ, Bool, List, [], ◌∷◌, ◌++◌, Option, Some, None, codes}
 use Rattle.std.proofs.Common.{replicate, refl, sym, inl, inr}
@@ -11,8 +11,8 @@ use Rattle.futmax_main.specs.declared.status.Status.TheVariants.{Done, BadWords,
 use Rattle.futmax_main.specs.declared.status.Status.TheVariants.{ReadFault, WriteFault, OutOfMemory}
 use Rattle.futmax_main.specs.declared.status.Status.TheVariants.{NotProved, TooLong}
 use Rattle.command_words.specs.declared.command.Mode.{Mode}
-use Rattle.command_words.specs.declared.command.Mode.TheVariants.{WhatIf}
-use Rattle.futmax_main.specs.Top.{session_status, IsSettled, Serves}
+use Rattle.command_words.specs.declared.command.Mode.TheVariants.{WhatIf, Resume}
+use Rattle.futmax_main.specs.Top.{session_status, IsEarned, IsSettled, Serves}
 use Rattle.futmax_main.specs.inside.Turns.{MayEndSession}
 
 -- a line of these words
@@ -25,10 +25,15 @@ two_clubs =
     line (codes "league,T,1") ++ (line (codes "club,A,1") ++ (line (codes "club,B,2")
     ++ line (codes "season")))
 
--- it is an input that ends well
-earned-done : (mode : Mode) → session_status mode two_clubs ≡ Done
-unfolding line two_clubs next_record strip_bom is_utf8 chars encode
-earned-done mode = refl
+-- the same with a saved text of nothing after it
+resumed_clubs : List ℕ
+resumed_clubs = two_clubs ++ (line (codes "proofs") ++ line (codes "saved_end"))
+
+-- there is an input that ends well
+earned-done : (mode : Mode) → IsEarned mode Done
+unfolding line two_clubs resumed_clubs next_record strip_bom is_utf8 chars encode
+earned-done (Resume proofs) = (resumed_clubs, refl)
+earned-done mode = (two_clubs, refl)
 
 -- no sheet stands in an empty input
 earned-bad_sheet : (mode : Mode) → session_status mode [] ≡ BadSheet
@@ -51,7 +56,7 @@ pub settled : (mode : Mode) (input left : Option (List ℕ)) (told : Bool)
     → Serves mode input left told old new status → MayEndSession status
     → status ≢ ReadFault → status ≢ WriteFault → IsSettled mode input status
 settled mode None left told old new Done serves may read write =
-    inl (two_clubs, earned-done mode)
+    inl (earned-done mode)
 settled mode None left told old new BadWords serves may read write = absurd may
 settled mode None left told old new BadSheet serves may read write =
     inl ([], earned-bad_sheet mode)

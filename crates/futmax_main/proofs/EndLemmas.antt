@@ -1,12 +1,12 @@
--- How a session ends: at a fault of its input, or while an answer is written.
-use Rattle.std.proofs.Common.{◌≡◌, ℕ, Bool, List, [], ◌∷◌, ◌++◌, Option, Some, ◌∙◌, subst, inl, inr}
+-- How a session ends: at a fault of its input, at its end, or while an answer is written.
+use Rattle.std.proofs.Common.{◌≡◌, ℕ, Bool, List, [], ◌∷◌, ◌++◌, Option, None, Some, ◌∙◌, refl, inl}
+use Rattle.std.proofs.Common.{inr}
 use Rattle.std.specs.Io.KnownBytes.{append_known}
-use Rattle.std.proofs.lemmas.List.{append-nil}
-use Rattle.port_core.specs.Ports.{IsBytePrefix}
 use Rattle.futmax_main.specs.declared.status.Status.{Status}
 use Rattle.futmax_main.specs.declared.status.Status.TheVariants.{Done, BadWords, BadSheet, BadFeed}
 use Rattle.futmax_main.specs.declared.status.Status.TheVariants.{ReadFault, WriteFault, OutOfMemory}
 use Rattle.futmax_main.specs.declared.status.Status.TheVariants.{NotProved, TooLong}
+use Rattle.answer_rows.specs.inside.Outputs.{PutsSomePrefix}
 use Rattle.command_words.specs.declared.command.Mode.{Mode}
 use Rattle.futmax_main.specs.declared.run_end.Cause.{Cause}
 use Rattle.futmax_main.specs.declared.run_end.Cause.TheVariants as cause
@@ -16,11 +16,11 @@ use Rattle.futmax_main.specs.Plays.{Played}
 use Rattle.futmax_main.specs.Courses.{Course, course_ended, with_asks}
 use Rattle.futmax_main.specs.Rows.{fault_row}
 use Rattle.futmax_main.specs.Answers.{IsAnswerTo}
-use Rattle.futmax_main.specs.Texts.{IsPrefixOf, status_of_cause}
-use Rattle.futmax_main.specs.Top.{IsWholeText, Serves}
+use Rattle.futmax_main.specs.Texts.{AreAnswers, IsLastText, status_of_cause}
+use Rattle.futmax_main.specs.Top.{IsTextPrefix, IsWholeText, Serves}
 use Rattle.futmax_main.specs.inside.Stops.{FaultEnds}
-use Rattle.futmax_main.specs.inside.Turns.{AskEnds}
-use Rattle.futmax_main.proofs.AnsweredLemmas.{answers-behind}
+use Rattle.futmax_main.specs.inside.Turns.{AskEnds, EndGives}
+use Rattle.futmax_main.proofs.AnsweredLemmas.{text-left}
 use Rattle.futmax_main.proofs.TextLemmas.{Reached, front-answer, front-last, reached-answered}
 use Rattle.futmax_main.proofs.TextLemmas.{reached-front, reached-so_far, reached-status}
 use Rattle.futmax_main.proofs.TextLemmas.{reached-text}
@@ -32,6 +32,7 @@ not_done (cause.Sheet fault) is = cc
 not_done (cause.Feed fault) is = cc
 not_done cause.LineTooLong is = cc
 not_done cause.InputTooLong is = cc
+not_done cause.BadSave is = cc
 
 -- nor with a fault of the source
 not_read : (cause : Cause) → status_of_cause cause ≡ ReadFault → ⊥
@@ -39,6 +40,7 @@ not_read (cause.Sheet fault) is = cc
 not_read (cause.Feed fault) is = cc
 not_read cause.LineTooLong is = cc
 not_read cause.InputTooLong is = cc
+not_read cause.BadSave is = cc
 
 -- a fault of the input comes after what was written
 abbrev pub Stopped : Mode → List ℕ → List ℕ → Fault → Type 0
@@ -50,8 +52,9 @@ whole : (mode : Mode) (input written : List ℕ) (fault : Fault) (status : Statu
     → Stopped mode input written fault → status_of_cause fault.cause ≡ status
     → IsWholeText mode input status (written ++ fault_row fault)
 whole mode input written fault status stopped is = (
-  reached-status mode input written (Refused fault) stopped ∙ is,
-  reached-text mode input written (Refused fault) stopped,
+  reached-status mode input written (course_ended (Refused fault)) stopped ∙ is,
+  reached-text mode input written (course_ended (Refused fault)) (fault_row fault) stopped refl
+      refl,
 )
 
 -- a fault of the input serves
@@ -84,7 +87,8 @@ fault-serves mode input written left told' old now0 now1 fault WriteFault stoppe
       written ++ ends.0,
       append_known-more old now0 now1 written ends.0 before ends.2,
       reached-front mode input written (course_ended (Refused fault)) ends.0 stopped
-          (front-last mode (Refused fault) ends.0 ends.1),
+          (front-last mode (course_ended (Refused fault)) (fault_row fault) ends.0 refl refl
+          ends.1),
     )
 fault-serves mode input written left told' old now0 now1 fault OutOfMemory stopped before ends
     = (
@@ -112,74 +116,89 @@ pub memory-serves : (mode : Mode) (input written : List ℕ) (left : Option (Lis
 memory-serves mode input written left told' old now behind there known =
     (written, known, reached-so_far mode input written behind there)
 
--- the end of the input serves
-pub end-serves : (mode : Mode) (input written : List ℕ) (left : Option (List ℕ))
-    (told' : Bool) (old now : Option (List ℕ))
-    → Reached mode input written (course_ended Complete) → now ≡ append_known old written
-    → left ≡ Some [] → Serves mode (Some input) left told' old now Done
-end-serves mode input written left told' old now there known none =
-    let P : List ℕ → Type 0 = λ t. IsWholeText mode input Done t in (
-      written,
-      known,
-      (
-        subst P (append-nil written) (
-          reached-status mode input written Complete there,
-          reached-text mode input written Complete there,
-        ),
-        none,
-      ),
-    )
+-- ---- the end of the input
 
--- a prefix of an answer is one of the course from its ask on
-asked-front : (mode : Mode) (input written : List ℕ) (asked : Played)
-    (behind : Course) (answer part : List ℕ)
-    → Reached mode input written (with_asks (asked ∷ []) behind)
-    → IsAnswerTo mode asked answer → IsBytePrefix part answer
-    → IsPrefixOf mode (with_asks (asked ∷ []) behind) part
-asked-front mode input written asked behind answer part there is front =
-    front-answer mode asked behind answer part is front
-    (answers-behind mode (asked ∷ []) behind.asks
-    (reached-answered mode input written (with_asks (asked ∷ []) behind) there))
+-- nothing is asked any more, and the end of the input has this answered, if something
+abbrev pub closed_by : Option Played → Course
+closed_by closing = record { asks = []; outcome = Complete; closing = closing }
 
--- an ask that ends the run serves
-pub ask-serves : (mode : Mode) (input written : List ℕ) (asked : Played)
-    (behind : Course) (left : Option (List ℕ)) (told' : Bool)
-    (old now0 now1 : Option (List ℕ)) (status : Status)
-    → Reached mode input written (with_asks (asked ∷ []) behind)
-    → now0 ≡ append_known old written → AskEnds mode asked now0 now1 status
-    → Serves mode (Some input) left told' old now1 status
-ask-serves mode input written asked behind left told' old now0 now1 Done there before ends =
-    absurd ends
-ask-serves mode input written asked behind left told' old now0 now1 BadWords there before ends
-    = absurd ends
-ask-serves mode input written asked behind left told' old now0 now1 BadSheet there before ends
-    = absurd ends
-ask-serves mode input written asked behind left told' old now0 now1 BadFeed there before ends =
-    absurd ends
-ask-serves mode input written asked behind left told' old now0 now1 ReadFault there before ends
-    = absurd ends
-ask-serves mode input written asked behind left told' old now0 now1 WriteFault there before
-    ends =
-    let front = ends.2 in (
-      written ++ front.0,
-      append_known-more old now0 now1 written front.0 before front.2,
-      reached-front mode input written (with_asks (asked ∷ []) behind) front.0 there
-          (asked-front mode input written asked behind ends.0 front.0 there ends.1 front.1),
-    )
-ask-serves mode input written asked behind left told' old now0 now1 OutOfMemory there before
-    ends = elim ends [
-      | inl same ↦
-          memory-serves mode input written left told' old now1
-          (with_asks (asked ∷ []) behind) there (same ∙ before)
-      | inr more ↦ let front = more.2 in (
+module _ (mode : Mode) (input written : List ℕ) (left : Option (List ℕ)) (told' : Bool)
+    (old now0 now1 : Option (List ℕ)) (closing : Option Played)
+    (there : Reached mode input written (closed_by closing))
+    (before : now0 ≡ append_known old written) where
+  -- a prefix of what is written last was written
+  closing-front : PutsSomePrefix (IsLastText Complete closing) now0 now1
+      → (text : List ℕ) × (now1 ≡ append_known old text) × IsTextPrefix mode input text
+  closing-front ends =
+      let front = ends.2 in (
         written ++ front.0,
         append_known-more old now0 now1 written front.0 before front.2,
-        reached-front mode input written (with_asks (asked ∷ []) behind) front.0 there
-            (asked-front mode input written asked behind more.0 front.0 there more.1
-            front.1),
+        reached-front mode input written (closed_by closing) front.0 there
+            (front-last mode (closed_by closing) ends.0 front.0 refl ends.1 front.1),
       )
-    ]
-ask-serves mode input written asked behind left told' old now0 now1 NotProved there before ends
-    = absurd ends
-ask-serves mode input written asked behind left told' old now0 now1 TooLong there before ends =
-    absurd ends
+
+  -- the end of the input serves
+  pub end-serves : (status : Status) → left ≡ Some [] → EndGives closing now0 now1 status
+      → Serves mode (Some input) left told' old now1 status
+  end-serves Done none ends = (
+    written ++ ends.0,
+    append_known-more old now0 now1 written ends.0 before ends.2,
+    (
+      (
+        reached-status mode input written (closed_by closing) there,
+        reached-text mode input written (closed_by closing) ends.0 there refl ends.1,
+      ),
+      none,
+    ),
+  )
+  end-serves BadWords none ends = absurd ends
+  end-serves BadSheet none ends = absurd ends
+  end-serves BadFeed none ends = absurd ends
+  end-serves ReadFault none ends = absurd ends
+  end-serves WriteFault none ends = closing-front ends
+  end-serves OutOfMemory none ends = elim ends [
+    | inl same ↦
+        memory-serves mode input written left told' old now1 (closed_by closing) there
+        (same ∙ before)
+    | inr more ↦ closing-front more
+  ]
+  end-serves NotProved none ends = absurd ends
+  end-serves TooLong none ends = absurd ends
+
+-- ---- an ask
+
+module _ (mode : Mode) (input written : List ℕ) (asked : Played) (asks : List Played)
+    (behind : Course) (left : Option (List ℕ)) (told' : Bool) (old now0 now1 : Option (List ℕ))
+    (are : (answer : List ℕ) → IsAnswerTo mode asked answer → AreAnswers mode asks answer)
+    (there : Reached mode input written (with_asks asks behind))
+    (before : now0 ≡ append_known old written) where
+  -- a prefix of an answer was written
+  asked-front : PutsSomePrefix (IsAnswerTo mode asked) now0 now1
+      → (text : List ℕ) × (now1 ≡ append_known old text) × IsTextPrefix mode input text
+  asked-front ends =
+      let front = ends.2 in
+      let whole = reached-answered mode input written (with_asks asks behind) there in (
+        written ++ front.0,
+        append_known-more old now0 now1 written front.0 before front.2,
+        reached-front mode input written (with_asks asks behind) front.0 there
+            (front-answer mode asks behind ends.0 front.0 (are ends.0 ends.1) front.1
+            (text-left mode asks behind whole)),
+      )
+
+  -- an ask that ends the run serves
+  pub ask-serves : (status : Status) → AskEnds mode asked now0 now1 status
+      → Serves mode (Some input) left told' old now1 status
+  ask-serves Done ends = absurd ends
+  ask-serves BadWords ends = absurd ends
+  ask-serves BadSheet ends = absurd ends
+  ask-serves BadFeed ends = absurd ends
+  ask-serves ReadFault ends = absurd ends
+  ask-serves WriteFault ends = asked-front ends
+  ask-serves OutOfMemory ends = elim ends [
+    | inl same ↦
+        memory-serves mode input written left told' old now1 (with_asks asks behind) there
+        (same ∙ before)
+    | inr more ↦ asked-front more
+  ]
+  ask-serves NotProved ends = absurd ends
+  ask-serves TooLong ends = absurd ends

@@ -1,5 +1,5 @@
 -- Where a round halts: what the ask that ends it is about.
-use Rattle.std.proofs.Common.{◌≡◌, ℕ, List, length, Option, None, Result, Ok, Err, ap, sym}
+use Rattle.std.proofs.Common.{◌≡◌, ℕ, Bool, List, length, Option, None, Result, Ok, Err, ap, sym}
 use Rattle.std.proofs.Common.{◌∙◌, subst, inl, inr}
 use Rattle.std.specs.Prelude.{◌⊎◌, IfSome}
 use Rattle.std.proofs.lemmas.Bool.{false≢true}
@@ -22,6 +22,7 @@ use Rattle.branch_pool.specs.inside.States.{PoolView, out_count}
 use Rattle.worker_gate.specs.declared.round.Round.{Round}
 use Rattle.worker_gate.specs.declared.round.RoundEnd.{RoundEnd}
 use Rattle.worker_gate.specs.declared.round.RoundEnd.TheVariants as round
+use Rattle.worker_gate.specs.inside.Reports.{ReportsTo}
 use Rattle.worker_gate.specs.inside.Rounds.{close_of}
 use Rattle.what_if.specs.declared.step.Step.{Step}
 use Rattle.what_if.specs.declared.step.Step.TheVariants as step
@@ -29,19 +30,21 @@ use Rattle.what_if.specs.Steps.{forget, step_of}
 use Rattle.what_if.specs.inside.StepCalls.{IsUnplayedFixture, live_step}
 use Rattle.what_if.proofs.StepLemmas.{step-about, step-may_come}
 use Rattle.command_words.specs.declared.command.Mode.{Mode}
-use Rattle.command_words.specs.declared.command.Mode.TheVariants.{Table, Scores, WhatIf, Check}
-use Rattle.command_words.specs.declared.command.Mode.TheVariants.{Sample}
+use Rattle.command_words.specs.declared.command.Mode.TheVariants.{Table, Scores, WhatIf, Save}
+use Rattle.command_words.specs.declared.command.Mode.TheVariants.{Resume, Check, Sample}
 use Rattle.futmax_main.specs.declared.halting.Halt.{Halt}
 use Rattle.futmax_main.specs.Courses.{about_in}
 use Rattle.futmax_main.specs.inside.Halts.{IsAboutAt, about_at}
-use Rattle.futmax_main.specs.inside.Progress.{line_after}
-use Rattle.futmax_main.specs.inside.RoundHalts.{HaltsRound, StarvesRound, halt_at, halt_of}
+use Rattle.futmax_main.specs.inside.Progress.{round_line}
+use Rattle.futmax_main.specs.inside.RoundHalts.{HaltsRound, IsReportedIn, StarvesRound, halt_at}
+use Rattle.futmax_main.specs.inside.RoundHalts.{halt_of}
 use Rattle.futmax_main.specs.inside.Turns.{IsLive, asked_by}
+use Rattle.futmax_main.proofs.OriginLemmas.{round-unworked}
 
 -- a mode reads lines as what it is
 pub reads-as : (mode other : Mode) (sheet : Sheet) → mode ≡ other
-    → line_after mode sheet ≡ line_after other sheet
-reads-as mode other sheet is = ap (λ m. line_after m sheet) is
+    → round_line mode sheet ≡ round_line other sheet
+reads-as mode other sheet is = ap (λ m. round_line m sheet) is
 
 -- ---- a round of steps
 
@@ -49,7 +52,7 @@ reads-as mode other sheet is = ap (λ m. line_after m sheet) is
 pub steps-end : (mode : Mode) (sheet : Sheet) (log log' : List Event) (from to : Spot)
     (close : Result Entry FeedStop) (found : RoundEnd) → mode ≡ WhatIf → close_of found ≡ close
     → EndsRound (live_step sheet) log log' from to close
-    → EndsRound (line_after mode sheet) log log' from to (close_of found)
+    → EndsRound (round_line mode sheet) log log' from to (close_of found)
 steps-end mode sheet log log' from to close found is found_is ends =
     let P : LiveReading → Type 0 = λ live. EndsRound live log log' from to (close_of found) in
     let Q : Result Entry FeedStop → Type 0 =
@@ -62,7 +65,7 @@ pub steps-last : {S : Type 0} (left : S → Option (List ℕ)) (reads : S → Li
     (before after : S) (close : Result Entry FeedStop) (found : RoundEnd) → mode ≡ WhatIf
     → close_of found ≡ close
     → StopsAtClose left reads (live_step sheet) log old new before after close
-    → StopsAtClose left reads (line_after mode sheet) log old new before after (close_of found)
+    → StopsAtClose left reads (round_line mode sheet) log old new before after (close_of found)
 steps-last left reads mode sheet log old new before after close found is found_is stops =
     let P : LiveReading → Type 0 =
     λ live. StopsAtClose left reads live log old new before after (close_of found) in
@@ -73,11 +76,11 @@ steps-last left reads mode sheet log old new before after close found is found_i
 -- ---- a round of entries
 
 module _ (mode : Mode) (sheet : Sheet) (live : LiveReading) (log : List Event)
-    (is : line_after mode sheet ≡ live) where
+    (is : round_line mode sheet ≡ live) where
   -- the mode reads it so
   pub entries-end : (log' : List Event) (from to : Spot) (end : RoundEnd)
       → EndsRound live log log' from to (close_of end)
-      → EndsRound (line_after mode sheet) log log' from to (close_of end)
+      → EndsRound (round_line mode sheet) log log' from to (close_of end)
   entries-end log' from to end ends =
       let P : LiveReading → Type 0 = λ read. EndsRound read log log' from to (close_of end) in
       subst P (sym is) ends
@@ -86,7 +89,7 @@ module _ (mode : Mode) (sheet : Sheet) (live : LiveReading) (log : List Event)
   pub entries-last : {S : Type 0} (left : S → Option (List ℕ)) (reads : S → List ℕ → S → Type 0)
       (old new : LineReaderView) (before after : S) (end : RoundEnd)
       → StopsAtClose left reads live log old new before after (close_of end)
-      → StopsAtClose left reads (line_after mode sheet) log old new before after (close_of end)
+      → StopsAtClose left reads (round_line mode sheet) log old new before after (close_of end)
   entries-last left reads old new before after end last =
       let P : LiveReading → Type 0 =
       λ read. StopsAtClose left reads read log old new before after (close_of end) in
@@ -96,23 +99,34 @@ module _ (mode : Mode) (sheet : Sheet) (live : LiveReading) (log : List Event)
 
 abbrev pub IsPlain : Mode → Type 0
 IsPlain mode =
-    (mode ≡ Table) ⊎ ((mode ≡ Scores) ⊎ ((mode ≡ Check)
-    ⊎ ((seed : ℕ) × (mode ≡ Sample seed))))
+    (mode ≡ Table) ⊎ ((mode ≡ Scores) ⊎ ((mode ≡ Save) ⊎ (((proofs : Bool) × (mode ≡ Resume proofs))
+    ⊎ ((mode ≡ Check) ⊎ ((seed : ℕ) × (mode ≡ Sample seed))))))
 
 -- lines are entries there
 pub plain-reads : (mode : Mode) (sheet : Sheet) → IsPlain mode
-    → line_after mode sheet ≡ live_entry sheet
+    → round_line mode sheet ≡ live_entry sheet
 plain-reads mode sheet (inl is) = reads-as mode Table sheet is
 plain-reads mode sheet (inr (inl is)) = reads-as mode Scores sheet is
-plain-reads mode sheet (inr (inr (inl is))) = reads-as mode Check sheet is
-plain-reads mode sheet (inr (inr (inr is))) = reads-as mode (Sample is.0) sheet is.1
+plain-reads mode sheet (inr (inr (inl is))) = reads-as mode Save sheet is
+plain-reads mode sheet (inr (inr (inr (inl is)))) = reads-as mode (Resume is.0) sheet is.1
+plain-reads mode sheet (inr (inr (inr (inr (inl is))))) = reads-as mode Check sheet is
+plain-reads mode sheet (inr (inr (inr (inr (inr is))))) = reads-as mode (Sample is.0) sheet is.1
 
 -- and name no fixture to ask about
 pub plain-about_in : (mode : Mode) (content : List ℕ) → IsPlain mode → about_in mode content ≡ None
 plain-about_in mode content (inl is) = ap (λ m. about_in m content) is
 plain-about_in mode content (inr (inl is)) = ap (λ m. about_in m content) is
 plain-about_in mode content (inr (inr (inl is))) = ap (λ m. about_in m content) is
-plain-about_in mode content (inr (inr (inr is))) = ap (λ m. about_in m content) is.1
+plain-about_in mode content (inr (inr (inr (inl is)))) = ap (λ m. about_in m content) is.1
+plain-about_in mode content (inr (inr (inr (inr (inl is))))) = ap (λ m. about_in m content) is
+plain-about_in mode content (inr (inr (inr (inr (inr is))))) = ap (λ m. about_in m content) is.1
+
+-- a round that only reports does what the mode has to
+pub reported-in : (mode : Mode) (pool next : PoolView) → ReportsTo pool next
+    → IsReportedIn mode pool next
+reported-in Save pool next reported = reported
+reported-in (Resume proofs) pool next reported = reported
+reported-in mode pool next reported = tt
 
 none-about_at : (mode : Mode) (end : RoundEnd) (content : List ℕ) → about_in mode content ≡ None
     → IsAboutAt mode end content None
@@ -124,14 +138,16 @@ none-about_at mode (round.Stop stop) content none = tt
 pub round-live : (mode : Mode) (pool next : PoolView) → IsLive mode pool
     → next.sheet ≡ pool.sheet → next.questions ≡ pool.questions
     → next.season ≡ season_after next.sheet next.log
-    → out_count next.loans ≡ out_count pool.loans → IsLive mode next
-round-live mode pool next live sheet questions season home =
+    → out_count next.loans ≡ out_count pool.loans → IsReportedIn mode pool next
+    → IsLive mode next
+round-live mode pool next live sheet questions season home reported =
     let P : Sheet → Type 0 = λ s. IsWithinLimits s in
     record {
       limits = subst P (sym sheet) live.limits;
       questions = questions ∙ live.questions ∙ ap (asked_by mode) (sym sheet);
       season = season;
       home = home ∙ live.home;
+      unworked = round-unworked mode pool next reported live.unworked;
     }
 
 -- ---- where a round halts
@@ -182,20 +198,21 @@ module _ {S : Type 0} (left : S → Option (List ℕ)) (reads : S → List ℕ �
     (mode : Mode) (pool : PoolView) (from to : Spot) (before after : S) where
   -- a round of entries, in a mode that reads lines so
   pub entries-halt : (round : Round) (halt : Halt) → halt ≡ halt_of round
-      → line_after mode pool.sheet ≡ live_entry pool.sheet
+      → round_line mode pool.sheet ≡ live_entry pool.sheet
       → about_in mode to.reader.text ≡ None → IsLive mode round.pool
-      → round.pool.sheet ≡ pool.sheet
+      → round.pool.sheet ≡ pool.sheet → IsReportedIn mode pool round.pool
       → EndsRound (live_entry pool.sheet) pool.log round.pool.log from to (close_of round.end)
       → StopsAtClose left reads (live_entry pool.sheet) pool.log from.reader to.reader before after
       (close_of round.end)
       → HaltsRound left reads mode pool from to before after halt
-  entries-halt round halt halts is none live sheet ends last =
+  entries-halt round halt halts is none live sheet reported ends last =
       let P : Halt → Type 0 = λ at. HaltsRound left reads mode pool from to before after at in
       subst P (sym halts) record {
         live = live;
         sheet = sheet;
         about = none-about_at mode round.end to.reader.text none;
         askable = tt;
+        reported = reported;
         ends = entries-end mode pool.sheet (live_entry pool.sheet) pool.log is round.pool.log from
             to round.end ends;
         last = entries-last mode pool.sheet (live_entry pool.sheet) pool.log is left reads
@@ -225,6 +242,7 @@ module _ {S : Type 0} (left : S → Option (List ℕ)) (reads : S → List ℕ �
             to.reader.text last end is_end there);
         askable = steps-askable round.sheet round.season (length round.log) to.reader.text last
             of_sheet there;
+        reported = subst (λ m. IsReportedIn m pool round) (sym is) tt;
         ends = steps-end mode pool.sheet pool.log round.log from to (answer_as forget last) end is
             is_end ends;
         last = steps-last left reads mode pool.sheet pool.log from.reader to.reader before after
@@ -232,7 +250,7 @@ module _ {S : Type 0} (left : S → Option (List ℕ)) (reads : S → List ℕ �
       }
 
   -- memory runs out in a round of lines that the mode reads so
-  pub round-starves : (live : LiveReading) → line_after mode pool.sheet ≡ live
+  pub round-starves : (live : LiveReading) → round_line mode pool.sheet ≡ live
       → BreaksOff live pool.log from to
       → ReadsOnWay left reads (GivesEvents live pool.log) from.reader to.reader before after
       → StarvesRound left reads mode pool from to before after

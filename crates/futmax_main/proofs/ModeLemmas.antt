@@ -8,7 +8,7 @@ use Rattle.futmax_main.specs.declared.status.Status.TheVariants.{ReadFault, Writ
 use Rattle.futmax_main.specs.declared.status.Status.TheVariants.{NotProved, TooLong}
 use Rattle.command_words.specs.declared.command.Mode.{Mode}
 use Rattle.command_words.specs.declared.command.Mode.TheVariants.{Verdicts, Table, Scores, WhatIf}
-use Rattle.command_words.specs.declared.command.Mode.TheVariants.{Check, Sample}
+use Rattle.command_words.specs.declared.command.Mode.TheVariants.{Save, Resume, Check, Sample}
 use Rattle.futmax_main.specs.Checks.{ServesCheck}
 use Rattle.futmax_main.specs.SampleRows.{ServesSample}
 use Rattle.futmax_main.specs.Top.{Serves}
@@ -104,15 +104,24 @@ settled_as-no_memory (Some mode) (Some input) = inr refl
 abbrev pub AnswersAsks : Mode → Type 0
 AnswersAsks mode =
     ((proofs : Bool) × (mode ≡ Verdicts proofs))
-    ⊎ ((mode ≡ Table) ⊎ ((mode ≡ Scores) ⊎ (mode ≡ WhatIf)))
+    ⊎ ((mode ≡ Table) ⊎ ((mode ≡ Scores) ⊎ ((mode ≡ WhatIf)
+    ⊎ ((mode ≡ Save) ⊎ ((proofs : Bool) × (mode ≡ Resume proofs))))))
 
 -- what holds of each of them
 asking : (P : Mode → Type 0) → ((proofs : Bool) → P (Verdicts proofs)) → P Table → P Scores
-    → P WhatIf → (mode : Mode) → AnswersAsks mode → P mode
-asking P verdicts table scores what_if mode (inl is) = subst P (sym is.1) (verdicts is.0)
-asking P verdicts table scores what_if mode (inr (inl is)) = subst P (sym is) table
-asking P verdicts table scores what_if mode (inr (inr (inl is))) = subst P (sym is) scores
-asking P verdicts table scores what_if mode (inr (inr (inr is))) = subst P (sym is) what_if
+    → P WhatIf → P Save → ((proofs : Bool) → P (Resume proofs)) → (mode : Mode) → AnswersAsks mode
+    → P mode
+asking P verdicts table scores what_if save resume mode (inl is) =
+    subst P (sym is.1) (verdicts is.0)
+asking P verdicts table scores what_if save resume mode (inr (inl is)) = subst P (sym is) table
+asking P verdicts table scores what_if save resume mode (inr (inr (inl is))) =
+    subst P (sym is) scores
+asking P verdicts table scores what_if save resume mode (inr (inr (inr (inl is)))) =
+    subst P (sym is) what_if
+asking P verdicts table scores what_if save resume mode (inr (inr (inr (inr (inl is))))) =
+    subst P (sym is) save
+asking P verdicts table scores what_if save resume mode (inr (inr (inr (inr (inr is))))) =
+    subst P (sym is.1) (resume is.0)
 
 -- a session serves as its mode has to
 pub session-serves : (mode : Mode) (input left : Option (List ℕ)) (told : Bool)
@@ -124,7 +133,7 @@ session-serves mode input left told old now status is =
     λ m. Serves m input left told old now status
     → ServesAs (Some m) input left told old now status in
     asking P (λ proofs serves. serves) (λ serves. serves) (λ serves. serves)
-    (λ serves. serves) mode is
+    (λ serves. serves) (λ serves. serves) (λ proofs serves. serves) mode is
 
 -- and stops so
 pub session-stops : {S : Type 0} (left : S → Option (List ℕ)) (reads : S → List ℕ → S → Type 0)
@@ -135,17 +144,20 @@ session-stops left reads mode before after status is =
     let P : Mode → Type 0 =
     λ m. StopsSession left reads m before after status
     → StopsAs left reads (Some m) before after status in
-    asking P (λ proofs stops. stops) (λ stops. stops) (λ stops. stops) (λ stops. stops) mode is
+    asking P (λ proofs stops. stops) (λ stops. stops) (λ stops. stops) (λ stops. stops)
+    (λ stops. stops) (λ proofs stops. stops) mode is
 
 -- and ends so
 pub session-ends : (mode : Mode) (status : Status) → AnswersAsks mode → MayEndSession status
     → MayEndAs mode status
 session-ends mode status is =
     let P : Mode → Type 0 = λ m. MayEndSession status → MayEndAs m status in
-    asking P (λ proofs may. may) (λ may. may) (λ may. may) (λ may. may) mode is
+    asking P (λ proofs may. may) (λ may. may) (λ may. may) (λ may. may) (λ may. may)
+    (λ proofs may. may) mode is
 
 -- and reads its input
 pub session-reads : (mode : Mode) → AnswersAsks mode → ReadsNothing (Some mode) → ⊥
 session-reads mode is =
     let P : Mode → Type 0 = λ m. ReadsNothing (Some m) → ⊥ in
-    asking P (λ proofs none. none) (λ none. none) (λ none. none) (λ none. none) mode is
+    asking P (λ proofs none. none) (λ none. none) (λ none. none) (λ none. none) (λ none. none)
+    (λ proofs none. none) mode is

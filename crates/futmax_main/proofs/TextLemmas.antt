@@ -4,38 +4,15 @@ use Rattle.std.proofs.Common.{append-nil}
 use Rattle.std.proofs.lemmas.List.{append_assoc}
 use Rattle.port_core.specs.Ports.{IsBytePrefix}
 use Rattle.port_core.specs.Contents.{Contents, contents_of, with_lines}
-use Rattle.league_core.specs.declared.season.Event.{Event}
 use Rattle.command_words.specs.declared.command.Mode.{Mode}
-use Rattle.futmax_main.specs.declared.run_end.RunEnd.{RunEnd}
 use Rattle.futmax_main.specs.Plays.{Played}
-use Rattle.futmax_main.specs.Courses.{Course, Origin, course_ended, course_from, course_of}
-use Rattle.futmax_main.specs.Courses.{with_asks}
-use Rattle.futmax_main.specs.Rows.{last_row}
-use Rattle.futmax_main.specs.Answers.{IsAnswerTo}
-use Rattle.futmax_main.specs.Texts.{AreAnswers, IsPrefixOf, IsTextOf, status_of_outcome}
+use Rattle.futmax_main.specs.Courses.{Course, course_of, with_asks}
+use Rattle.futmax_main.specs.Texts.{AreAnswers, IsLastText, IsPrefixOf, IsTextOf}
+use Rattle.futmax_main.specs.Texts.{status_of_outcome}
 use Rattle.futmax_main.specs.Top.{IsText, IsTextPrefix, session_status}
 use Rattle.futmax_main.specs.inside.Progress.{LeadsOn}
-use Rattle.futmax_main.proofs.AnsweredLemmas.{HasAnswers, answers-behind, session-answered}
-
--- answers and then more answers
-pub answers-append : (mode : Mode) (asks others : List Played) (written more : List ℕ)
-    → AreAnswers mode asks written → AreAnswers mode others more
-    → AreAnswers mode (asks ++ others) (written ++ more)
-answers-append mode [] others written more first second =
-    let P : List ℕ → Type 0 = λ t. AreAnswers mode others (t ++ more) in
-    subst P (sym first) second
-answers-append mode (asked ∷ asks) others written more first second = (
-  first.0,
-  first.1 ++ more,
-  ap (λ t. t ++ more) first.2 ∙ append_assoc first.0 first.1 more,
-  first.3,
-  answers-append mode asks others first.1 more first.4 second,
-)
-
--- one answer
-pub answers-one : (mode : Mode) (asked : Played) (answer : List ℕ)
-    → IsAnswerTo mode asked answer → AreAnswers mode (asked ∷ []) answer
-answers-one mode asked answer is = (answer, [], sym (append-nil answer), is, refl)
+use Rattle.futmax_main.proofs.AnsweredLemmas.{HasText, answers-append, session-answered}
+use Rattle.futmax_main.proofs.AnsweredLemmas.{text-left}
 
 -- answers to the first asks, and a text of what comes after them
 text-behind : (mode : Mode) (asks : List Played) (behind : Course)
@@ -43,8 +20,10 @@ text-behind : (mode : Mode) (asks : List Played) (behind : Course)
     → IsTextOf mode (with_asks asks behind) (written ++ text)
 text-behind mode asks behind written text first whole = (
   written ++ whole.0,
-  answers-append mode asks behind.asks written whole.0 first whole.1,
-  ap (λ t. written ++ t) whole.2 ∙ sym (append_assoc written whole.0 (last_row behind.outcome)),
+  whole.1,
+  answers-append mode asks behind.asks written whole.0 first whole.2,
+  whole.3,
+  ap (λ t. written ++ t) whole.4 ∙ sym (append_assoc written whole.0 whole.1),
 )
 
 -- the same of a front
@@ -60,29 +39,32 @@ front-behind mode asks behind written more first front = (
   ),
 )
 
--- ---- fronts that end at an answer, in it, or in the last row
+-- ---- fronts that end at an answer, in it, or in what is written last
 
--- nothing is a front, where each ask has an answer
-pub front-nothing : (mode : Mode) (behind : Course) → HasAnswers mode behind.asks
+-- nothing is a front, where there is a whole text
+pub front-nothing : (mode : Mode) (behind : Course) → HasText mode behind
     → IsPrefixOf mode behind []
-front-nothing mode behind answered =
-    let whole = answered.0 ++ last_row behind.outcome in
-    (whole, (answered.0, answered.1, refl), (whole, refl))
+front-nothing mode behind there =
+    let whole = there.0.0 ++ there.1.0 in
+    (whole, (there.0.0, there.1.0, there.0.1, there.1.1, refl), (whole, refl))
 
--- a prefix of the last row, where nothing is asked any more
-pub front-last : (mode : Mode) (outcome : RunEnd) (part : List ℕ)
-    → IsBytePrefix part (last_row outcome) → IsPrefixOf mode (course_ended outcome) part
-front-last mode outcome part front = (last_row outcome, ([], refl, refl), front)
+-- a prefix of what is written last, where nothing is asked any more
+pub front-last : (mode : Mode) (behind : Course) (last part : List ℕ) → behind.asks ≡ []
+    → IsLastText behind.outcome behind.closing last → IsBytePrefix part last
+    → IsPrefixOf mode behind part
+front-last mode behind last part none is front =
+    let P : List Played → Type 0 = λ asks. AreAnswers mode asks [] in
+    (last, ([], last, subst P (sym none) refl, is, refl), front)
 
--- a prefix of an answer, where each ask after it has one
-pub front-answer : (mode : Mode) (asked : Played) (behind : Course)
-    (answer part : List ℕ) → IsAnswerTo mode asked answer → IsBytePrefix part answer
-    → HasAnswers mode behind.asks → IsPrefixOf mode (with_asks (asked ∷ []) behind) part
-front-answer mode asked behind answer part is front answered =
-    let rest = answered.0 ++ last_row behind.outcome in (
+-- a prefix of answers, where there is a whole text of what comes after them
+pub front-answer : (mode : Mode) (asks : List Played) (behind : Course)
+    (answer part : List ℕ) → AreAnswers mode asks answer → IsBytePrefix part answer
+    → HasText mode behind → IsPrefixOf mode (with_asks asks behind) part
+front-answer mode asks behind answer part are front there =
+    let rest = there.0.0 ++ there.1.0 in (
       answer ++ rest,
-      text-behind mode (asked ∷ []) behind answer rest
-          (answers-one mode asked answer is) (answered.0, answered.1, refl),
+      text-behind mode asks behind answer rest are
+          (there.0.0, there.1.0, there.0.1, there.1.1, refl),
       (front.0 ++ rest, sym (append_assoc part front.0 rest) ∙ ap (λ t. t ++ rest) front.1),
     )
 
@@ -101,10 +83,10 @@ reached-start mode input behind is = record { asks = []; answers = refl; all = i
 
 -- lines were taken
 pub reached : (mode : Mode) (input : List ℕ) (taken : List (ℕ × List ℕ))
-    (written : List ℕ) (origin : Origin) (events : List Event) (rest : Contents)
-    → LeadsOn mode taken written origin events → contents_of input ≡ with_lines taken rest
-    → Reached mode input written (course_from mode origin events rest)
-reached mode input taken written origin events rest way is = record {
+    (written : List ℕ) (from : Contents → Course) (rest : Contents)
+    → LeadsOn mode taken written from → contents_of input ≡ with_lines taken rest
+    → Reached mode input written (from rest)
+reached mode input taken written from rest way is = record {
   asks = way.asks;
   answers = way.answers;
   all = ap (course_of mode) is ∙ way.course rest;
@@ -120,13 +102,12 @@ reached-as mode input written behind other there is = record {
   all = there.all ∙ ap (with_asks there.asks) is;
 }
 
--- each ask that is left has an answer
+-- there is a whole text of what is left
 pub reached-answered : (mode : Mode) (input written : List ℕ) (behind : Course)
-    → Reached mode input written behind → HasAnswers mode behind.asks
+    → Reached mode input written behind → HasText mode behind
 reached-answered mode input written behind there =
-    let P : Course → Type 0 = λ c. HasAnswers mode c.asks in
-    answers-behind mode there.asks behind.asks
-    (subst P there.all (session-answered mode (contents_of input)))
+    let P : Course → Type 0 = λ c. HasText mode c in
+    text-left mode there.asks behind (subst P there.all (session-answered mode (contents_of input)))
 
 -- a prefix of what comes after
 pub reached-front : (mode : Mode) (input written : List ℕ) (behind : Course)
@@ -147,18 +128,19 @@ reached-so_far mode input written behind there =
     (front-nothing mode behind (reached-answered mode input written behind there)))
 
 -- the whole text, where nothing is asked any more
-pub reached-text : (mode : Mode) (input written : List ℕ) (outcome : RunEnd)
-    → Reached mode input written (course_ended outcome)
-    → IsText mode input (written ++ last_row outcome)
-reached-text mode input written outcome there =
-    let P : Course → Type 0 = λ c. IsTextOf mode c (written ++ last_row outcome) in
+pub reached-text : (mode : Mode) (input written : List ℕ) (behind : Course) (last : List ℕ)
+    → Reached mode input written behind → behind.asks ≡ []
+    → IsLastText behind.outcome behind.closing last → IsText mode input (written ++ last)
+reached-text mode input written behind last there none is =
+    let P : Course → Type 0 = λ c. IsTextOf mode c (written ++ last) in
     let Q : List Played → Type 0 = λ asks. AreAnswers mode asks written in
-    subst P (sym there.all)
-    (written, subst Q (sym (append-nil there.asks)) there.answers, refl)
+    let same : there.asks ++ behind.asks ≡ there.asks =
+    ap (λ more. there.asks ++ more) none ∙ append-nil there.asks in
+    subst P (sym there.all) (written, last, subst Q (sym same) there.answers, is, refl)
 
 -- and its status
-pub reached-status : (mode : Mode) (input written : List ℕ) (outcome : RunEnd)
-    → Reached mode input written (course_ended outcome)
-    → session_status mode input ≡ status_of_outcome outcome
-reached-status mode input written outcome there =
+pub reached-status : (mode : Mode) (input written : List ℕ) (behind : Course)
+    → Reached mode input written behind
+    → session_status mode input ≡ status_of_outcome behind.outcome
+reached-status mode input written behind there =
     ap (λ (c : Course). status_of_outcome c.outcome) there.all

@@ -1,10 +1,9 @@
 -- The reading of the sheet: what it gives, from what the reader gave and what was written.
 use Rattle.std.proofs.Common.{◌≡◌, ℕ, Bool, List, [], ◌∷◌, ◌++◌, Option, Some, None, Result, Ok}
-use Rattle.std.proofs.Common.{Err, refl, ap, sym, ◌∙◌, subst, inr}
+use Rattle.std.proofs.Common.{Err, refl, ap, sym, ◌∙◌, subst, inl, inr}
 use Rattle.std.specs.Io.KnownBytes.{prepend_known}
 use Rattle.std.proofs.lemmas.List.{append-nil}
 use Rattle.league_core.specs.declared.sheet.Sheet.{Sheet}
-use Rattle.league_core.specs.declared.season.Event.{Event}
 use Rattle.port_core.specs.declared.line.Line.TheVariants as line
 use Rattle.port_core.specs.declared.line.ReadStop.TheVariants as stop
 use Rattle.port_core.specs.Lines.{lines_of, HasNoLineFeed}
@@ -24,15 +23,13 @@ use Rattle.command_words.specs.declared.command.Mode.{Mode}
 use Rattle.futmax_main.specs.declared.run_end.Cause.TheVariants as cause
 use Rattle.futmax_main.specs.declared.run_end.Fault.{Fault}
 use Rattle.futmax_main.specs.declared.run_end.RunEnd.TheVariants.{Refused}
-use Rattle.futmax_main.specs.declared.session.Step.{Step}
-use Rattle.futmax_main.specs.declared.session.Step.TheVariants.{GoesOn, Ends}
-use Rattle.futmax_main.specs.Courses.{Course, Origin, course_ended, course_of, course_of_reading}
-use Rattle.futmax_main.specs.Courses.{input_fault, line_fault, outcome_at_sheet}
+use Rattle.futmax_main.specs.Courses.{Course, course_ended, course_from, course_of}
+use Rattle.futmax_main.specs.Courses.{course_of_reading, first_origin, input_fault, line_fault}
+use Rattle.futmax_main.specs.Courses.{outcome_at_sheet}
 use Rattle.futmax_main.specs.Texts.{AreAllAnswers}
 use Rattle.futmax_main.specs.Top.{AreAnswersIn, Serves}
 use Rattle.futmax_main.specs.inside.Progress.{Path}
 use Rattle.futmax_main.specs.inside.Stops.{FaultEnds, StopEnds, stop_of_sheet}
-use Rattle.futmax_main.specs.inside.Turns.{TurnBegins, TurnGives}
 use Rattle.futmax_main.proofs.SheetLemmas.{same-lines, sheet-elsewhere, sheet-reading}
 use Rattle.futmax_main.proofs.TextLemmas.{reached-start}
 use Rattle.futmax_main.proofs.EndLemmas.{fault-serves, memory-serves}
@@ -65,12 +62,13 @@ lines-alone input after told told' to given passed =
 
 -- ---- the sheet
 
--- a session that begins after its sheet
+-- the way to the feed of an input that is shown
 sheet-path : (mode : Mode) (input after : List ℕ) (told told' : Bool) (to : Position)
     (given : List (ℕ × List ℕ)) (sheet : Sheet) (old : Option (List ℕ))
     → Passes start input told to after told' given
     → ReadsSheetAs (Some (contents_of input)) (Some (contents_from to (lines_of after))) (Ok sheet)
-    → Path mode (Some input) told (Some after) told' to (record { sheet = sheet }) [] old old
+    → Path mode (Some input) told (Some after) told' to (course_from mode (first_origin sheet) [])
+    old old
 sheet-path mode input after told told' to given sheet old passed reads =
     let elsewhere = sheet-elsewhere given (contents_of input) (contents_from to (lines_of after))
     sheet (all-contents input after told told' to given passed) reads in (
@@ -85,50 +83,16 @@ sheet-path mode input after told told' to given sheet old passed reads =
       },
     )
 
--- a turn after a whole sheet of an input that is told
-sheet-turn : (mode : Mode) (input after : List ℕ) (told told' : Bool) (to : Position)
-    (given : List (ℕ × List ℕ)) (sheet : Sheet) (left old : Option (List ℕ)) (turn : Step)
-    → Passes start input told to after told' given
-    → ReadsSheetAs (Some (contents_of input)) (Some (contents_from to (lines_of after))) (Ok sheet)
-    → TurnBegins sheet turn
-    → TurnGives mode (Some input) told (Some after) told' to left old old turn
-sheet-turn mode input after told told' to given sheet left old (GoesOn next) passed reads
-    begins =
-    let origin : Origin = record { sheet = sheet } in
-    let Q : List Event → Type 0 =
-    λ log. Path mode (Some input) told (Some after) told' to origin log old old in (
-      origin,
-      sym begins.0,
-      subst Q (sym begins.1)
-          (sheet-path mode input after told told' to given sheet old passed reads),
-    )
-sheet-turn mode input after told told' to given sheet left old (Ends status) passed reads
-    begins =
-    let P : Status → Type 0 = λ s. Serves mode (Some input) left told' old old s in
-    subst P (sym begins) (serves-nothing mode (Some input) left told' old)
-
--- nothing is said of a turn where the source does not tell its bytes
-pub turn-untold : (mode : Mode) (told : Bool) (stream : Option (List ℕ)) (told' : Bool)
-    (position : Position) (left old now : Option (List ℕ)) (turn : Step)
-    → TurnGives mode None told stream told' position left old now turn
-turn-untold mode told stream told' position left old now (GoesOn next) =
-    (record { sheet = next.sheet }, refl, tt)
-turn-untold mode told stream told' position left old now (Ends status) = tt
-
--- a turn after a whole sheet
-pub turn-sheet : (mode : Mode) (input after : Option (List ℕ)) (told told' : Bool)
-    (to : Position) (given : List (ℕ × List ℕ)) (sheet : Sheet) (left old : Option (List ℕ))
-    (turn : Step) → PassesKnown start input told to after told' given
+-- the way to the feed
+pub way-sheet : (mode : Mode) (input after : Option (List ℕ)) (told told' : Bool)
+    (to : Position) (given : List (ℕ × List ℕ)) (sheet : Sheet) (old : Option (List ℕ))
+    → PassesKnown start input told to after told' given
     → ReadsSheetAs (contents_after start input) (contents_after to after) (Ok sheet)
-    → TurnBegins sheet turn
-    → TurnGives mode input told after told' to left old old turn
-turn-sheet mode None after told told' to given sheet left old turn passed reads begins =
-    turn-untold mode told after told' to left old old turn
-turn-sheet mode (Some input) None told told' to given sheet left old turn passed reads begins =
-    absurd passed
-turn-sheet mode (Some input) (Some after) told told' to given sheet left old turn passed reads
-    begins =
-    sheet-turn mode input after told told' to given sheet left old turn passed reads begins
+    → Path mode input told after told' to (course_from mode (first_origin sheet) []) old old
+way-sheet mode None after told told' to given sheet old passed reads = tt
+way-sheet mode (Some input) None told told' to given sheet old passed reads = absurd passed
+way-sheet mode (Some input) (Some after) told told' to given sheet old passed reads =
+    sheet-path mode input after told told' to given sheet old passed reads
 
 -- a turn in which no sheet came, for this fault
 pub turn-no_sheet : (mode : Mode) (input after : Option (List ℕ)) (told told' : Bool)
@@ -198,7 +162,7 @@ fails-early mode input held left told told' to given old passed draft leads no_f
         passed.whole,
         answers-in mode input after told told' to given []
             (course_of_reading mode (sheet_reading_of (ended (Ok number)) draft)) passed
-            read (refl, inr (_, refl)),
+            read (refl, inr (inl (_, refl))),
       ),
     )
 
@@ -314,17 +278,16 @@ sheet-stops mode reader new input left told told' sheet_stop.OutOfMemory old now
     let Q : Option (List ℕ) → Type 0 = λ n. Serves mode input left told' old n OutOfMemory in
     subst P (sym ends.0) (subst Q (sym ends.1) (serves-nothing mode input left told' old))
 
--- the sheet
+-- the sheet, and the way to the feed after it
 pub sheet-comes : (mode : Mode) (reader new : LineReaderView)
-    (input left : Option (List ℕ))
-    (told told' : Bool) (sheet : Sheet) (old : Option (List ℕ)) (turn : Step)
+    (input left : Option (List ℕ)) (told told' : Bool) (sheet : Sheet) (old : Option (List ℕ))
     → reader ≡ record { held = []; text = []; position = start }
     → ReadsSheet (contents_to_come reader input) (contents_to_come new left) (Ok sheet)
     → PassesUpTo reader new input left told told' (Ok (line.Text new.position.lines))
-    → TurnBegins sheet turn
-    → TurnGives mode input told (stream_of new left) told' new.position left old old turn
-sheet-comes mode reader new input left told told' sheet old turn fresh reads passes begins =
+    → Path mode input told (stream_of new left) told' new.position
+    (course_from mode (first_origin sheet) []) old old
+sheet-comes mode reader new input left told told' sheet old fresh reads passes =
     let given : List (ℕ × List ℕ) = passes.0 ++ (new.position.lines, new.text) ∷ [] in
-    turn-sheet mode input (stream_of new left) told told' new.position given sheet left old
-    turn (fresh-passes reader new input left told told' given fresh passes.1)
-    (fresh-reads reader input (contents_to_come new left) (Ok sheet) fresh reads) begins
+    way-sheet mode input (stream_of new left) told told' new.position given sheet old
+    (fresh-passes reader new input left told told' given fresh passes.1)
+    (fresh-reads reader input (contents_to_come new left) (Ok sheet) fresh reads)

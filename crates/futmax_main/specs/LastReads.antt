@@ -9,10 +9,11 @@ use Rattle.fixture_sheet.specs.LastReads.{ReadsOnWay}
 use Rattle.fixture_sheet.specs.Sheets.{sheet_reading_of}
 use Rattle.futmax_main.specs.declared.status.Status.{Status}
 use Rattle.futmax_main.specs.declared.status.Status.TheVariants.{ReadFault}
+use Rattle.pool_save.specs.SavedReadings.{SaveState}
 use Rattle.command_words.specs.declared.command.Mode.{Mode}
 use Rattle.command_words.specs.declared.command.Mode.TheVariants.{Check, Sample}
 use Rattle.futmax_main.specs.Plays.{Played}
-use Rattle.futmax_main.specs.Courses.{Origin, course_from, course_of, with_asks}
+use Rattle.futmax_main.specs.Courses.{Origin, course_from, course_from_saved, course_of, with_asks}
 
 -- a reader that has given nothing
 abbrev pub fresh_reader : LineReaderView
@@ -34,6 +35,21 @@ LeadToFeed mode lines origin events =
     → course_of mode (with_lines lines rest)
     ≡ with_asks asks (course_from mode origin events rest))
 
+-- lines lead into a saved text after these events, of which so much is read, whatever follows
+-- them: the course is some asks, and then what follows from there on
+abbrev pub LeadToSavedBy : Mode → List (ℕ × List ℕ) → Sheet → List Event → SaveState → Type 0
+LeadToSavedBy mode lines sheet events state =
+    (asks : List Played)
+    × ((rest : Contents)
+    → course_of mode (with_lines lines rest)
+    ≡ with_asks asks (course_from_saved mode sheet events state rest))
+
+-- the same after some events
+abbrev pub LeadToSaved : Mode → List (ℕ × List ℕ) → Type 0
+LeadToSaved mode lines =
+    (sheet : Sheet) × (events : List Event) × (state : SaveState)
+    × LeadToSavedBy mode lines sheet events state
+
 -- lines were given that lead a session on, and do not end it; nothing is said if the source shows
 -- none
 abbrev pub IsOnCourse : Mode → Option Contents → Option Contents → Type 0
@@ -42,7 +58,8 @@ IsOnCourse mode (Some before) None = ⊥
 IsOnCourse mode (Some before) (Some after) =
     (lines : List (ℕ × List ℕ)) × (before ≡ with_lines lines after)
     × (LeadToDraft lines
-    ⊎ ((origin : Origin) × (events : List Event) × LeadToFeed mode lines origin events))
+    ⊎ ((origin : Origin) × (events : List Event) × LeadToFeed mode lines origin events)
+    ⊎ LeadToSaved mode lines)
 
 -- reading stops at the read that completes the line at which the session ends, unless the source
 -- failed

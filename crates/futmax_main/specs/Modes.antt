@@ -1,5 +1,5 @@
--- What the top call promises, by the mode that its words give: that asks are answered, that a
--- report is checked, or that a sample is made.
+-- What the top call promises, by the mode that its words give: that asks are answered or a saved
+-- text is written, that a report is checked, or that a sample is made.
 use Rattle.std.specs.Prelude.{◌≡◌, ℕ, Bool, ◌⊎◌, List, Option, Some, None}
 use Rattle.command_words.specs.declared.command.Mode.{Mode}
 use Rattle.command_words.specs.declared.command.Mode.TheVariants.{Check, Sample}

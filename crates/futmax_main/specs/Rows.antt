@@ -6,8 +6,6 @@ use Rattle.result_log.specs.Faults.{feed_code_of}
 use Rattle.futmax_main.specs.declared.run_end.Cause.{Cause}
 use Rattle.futmax_main.specs.declared.run_end.Cause.TheVariants as cause
 use Rattle.futmax_main.specs.declared.run_end.Fault.{Fault}
-use Rattle.futmax_main.specs.declared.run_end.RunEnd.{RunEnd}
-use Rattle.futmax_main.specs.declared.run_end.RunEnd.TheVariants.{Complete, Refused}
 
 -- `usage,..`, for words that fit no mode
 abbrev pub usage_row : List ℕ
@@ -20,13 +18,9 @@ cause_text (cause.Sheet fault) = sheet_code_of fault
 cause_text (cause.Feed fault) = feed_code_of fault
 cause_text cause.LineTooLong = codes "line_too_long"
 cause_text cause.InputTooLong = codes "input_too_long"
+cause_text cause.BadSave = codes "bad_save"
 
 -- `fault,LINE,CODE`
 abbrev pub fault_row : Fault → List ℕ
 fault_row fault =
     text_of_row (codes "fault" ∷ decimal fault.number ∷ cause_text fault.cause ∷ [])
-
--- what is written last if a session ends so: nothing if it is complete
-abbrev pub last_row : RunEnd → List ℕ
-last_row Complete = []
-last_row (Refused fault) = fault_row fault

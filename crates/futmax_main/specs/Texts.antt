@@ -1,8 +1,9 @@
--- The status and the texts of a course: an answer to each ask, and then the last row.
-use Rattle.std.specs.Prelude.{◌≡◌, ℕ, ◌⊎◌, List, ◌++◌}
+-- The status and the texts of a course: an answer to each ask, and then what is written last.
+use Rattle.std.specs.Prelude.{◌≡◌, ℕ, ◌⊎◌, List, [], ◌++◌, Option, None, Some}
 use Rattle.port_core.specs.Ports.{IsBytePrefix}
 use Rattle.fixture_sheet.specs.declared.fault.SheetFault.{SheetFault}
 use Rattle.answer_rows.specs.Parts.{IsMadeOf}
+use Rattle.pool_save.specs.SavedItems.{IsSavedOf}
 use Rattle.futmax_main.specs.declared.status.Status.{Status}
 use Rattle.futmax_main.specs.declared.status.Status.TheVariants.{Done, BadSheet, BadFeed, TooLong}
 use Rattle.command_words.specs.declared.command.Mode.{Mode}
@@ -11,8 +12,8 @@ use Rattle.futmax_main.specs.declared.run_end.Cause.TheVariants as cause
 use Rattle.futmax_main.specs.declared.run_end.RunEnd.{RunEnd}
 use Rattle.futmax_main.specs.declared.run_end.RunEnd.TheVariants.{Complete, Refused}
 use Rattle.futmax_main.specs.Plays.{Played}
-use Rattle.futmax_main.specs.Courses.{Course}
-use Rattle.futmax_main.specs.Rows.{last_row}
+use Rattle.futmax_main.specs.Courses.{Course, save_fault}
+use Rattle.futmax_main.specs.Rows.{fault_row}
 use Rattle.futmax_main.specs.Answers.{IsAnswerTo}
 
 -- ---- the status
@@ -23,6 +24,7 @@ status_of_cause (cause.Sheet fault) = BadSheet
 status_of_cause (cause.Feed fault) = BadFeed
 status_of_cause cause.LineTooLong = TooLong
 status_of_cause cause.InputTooLong = TooLong
+status_of_cause cause.BadSave = BadFeed
 
 -- the status of a session that ends so
 abbrev pub status_of_outcome : RunEnd → Status
@@ -35,23 +37,32 @@ status_of_outcome (Refused fault) = status_of_cause fault.cause
 abbrev pub AreAnswers : Mode → List Played → List ℕ → Type 0
 AreAnswers mode asks text = IsMadeOf (IsAnswerTo mode) asks text
 
+-- the text is what is written last if a session ends so: the row of a fault; or, if its end has
+-- something answered, a saved text of what was played; or nothing
+abbrev pub IsLastText : RunEnd → Option Played → List ℕ → Type 0
+IsLastText (Refused fault) closing text = text ≡ fault_row fault
+IsLastText Complete None text = text ≡ []
+IsLastText Complete (Some played) text = IsSavedOf played.sheet played.season text
+
 -- the text is one that a session of this course writes
 abbrev pub IsTextOf : Mode → Course → List ℕ → Type 0
 IsTextOf mode course text =
-    (answers : List ℕ) × AreAnswers mode course.asks answers
-    × (text ≡ answers ++ last_row course.outcome)
+    (answers : List ℕ) × (last : List ℕ) × AreAnswers mode course.asks answers
+    × IsLastText course.outcome course.closing last × (text ≡ answers ++ last)
 
 -- the text is a prefix of one that a session of this course writes
 abbrev pub IsPrefixOf : Mode → Course → List ℕ → Type 0
 IsPrefixOf mode course text =
     (whole : List ℕ) × IsTextOf mode course whole × IsBytePrefix text whole
 
--- no line is refused if the input ends at this number: it is complete there, or its sheet is not
+-- no line is refused if the input ends at this number: it is complete there, or its sheet is not,
+-- or its saved text is not
 abbrev pub IsRefusedAtEnd : ℕ → RunEnd → Type 0
 IsRefusedAtEnd number outcome =
     (outcome ≡ Complete)
     ⊎ ((fault : SheetFault)
     × (outcome ≡ Refused (record { number = number; cause = cause.Sheet fault })))
+    ⊎ (outcome ≡ Refused (save_fault number))
 
 -- the text is the answers of all asks of this course, whose input ends at this number
 abbrev pub AreAllAnswers : Mode → ℕ → Course → List ℕ → Type 0

@@ -1,6 +1,6 @@
--- What a run that answers asks promises of the status, of the bytes written, and of what the source
--- has left. It is said if the source exposes its bytes; a sink that exposes none is taken to hold
--- what was written.
+-- What a run that answers asks or saves promises of the status, of the bytes written, and of what
+-- the source has left. It is said if the source exposes its bytes; a sink that exposes none is
+-- taken to hold what was written.
 use Rattle.std.specs.Prelude.{◌≡◌, ℕ, Bool, false, ◌⊎◌, List, [], ◌++◌, Option, Some, None, Ok}
 use Rattle.std.specs.Io.KnownBytes.{append_known}
 use Rattle.port_core.specs.Lines.{lines_of, AreEndedLines, HasNoLineFeed}

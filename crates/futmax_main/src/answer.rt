@@ -1,24 +1,26 @@
 //! The pool of a session, and the answer of an ask.
 
-ghost use Rattle.std.specs.Prelude.{◌≡◌, ◌≤◌, [], All, IfOk, None, length};
+ghost use Rattle.std.specs.Prelude.{◌≡◌, ◌≤◌, List, [], All, IfOk, None, Option, length};
 ghost use Rattle.league_core.specs.game.Questions.{IsQuestionOf};
 ghost use Rattle.league_core.specs.game.Sheets.{IsWithinLimits};
 ghost use Rattle.verdict_run.specs.inside.Working.{AreSettled};
 ghost use Rattle.answer_rows.specs.inside.Outputs.{CountsPut};
-ghost use Rattle.command_words.specs.declared.command.Mode.TheVariants.{Verdicts, Table, Scores};
-ghost use Rattle.command_words.specs.declared.command.Mode.TheVariants.{WhatIf};
+ghost use Rattle.league_core.specs.search.Trees.{Tree};
+ghost use Rattle.command_words.specs.declared.command.Mode.TheVariants.{Table, Scores, WhatIf};
+ghost use Rattle.command_words.specs.declared.command.Mode.TheVariants.{Resume};
 ghost use Rattle.futmax_main.specs.inside.Halts.{IsAskable};
-ghost use Rattle.futmax_main.specs.inside.Turns.{AnswersAsk, IsLive, IsReportedSame, IsWorkedOut};
-ghost use Rattle.futmax_main.specs.inside.Turns.{PutsAnswer, asked_by};
+ghost use Rattle.futmax_main.specs.inside.Progress.{KeepsSaved};
+ghost use Rattle.futmax_main.specs.inside.Turns.{AnswersAsk, IsLive, IsReportedSame, IsUnworked};
+ghost use Rattle.futmax_main.specs.inside.Turns.{IsWorkedOut, PutsAnswer, asked_by};
 
-use answer_rows::{OutputStop, put_scores, put_table, put_verdicts, table_rows};
+use answer_rows::{OutputStop, put_scores, put_table, put_verdicts, questions, table_rows};
 use branch_pool::Pool;
 use command_words::Mode;
 use league_core::{OutOfMemory, Question, Sheet};
 use port_core::Sink;
 use qual_scores::all_scores;
 use std::alloc::Global;
-use verdict_run::{finish, questions, verdicts};
+use verdict_run::{finish, verdicts};
 use what_if::put_when;
 
 /// The pool of a session whose sheet is whole, before the first event.
@@ -27,6 +29,7 @@ pub fn begin_pool(alloc: Global, mode: Mode, sheet: Sheet) -> Result<Pool, OutOf
     ensures live { IfOk result (IsLive mode) }
     ensures sheet { IfOk result (λ pool. pool.sheet ≡ sheet) }
     ensures log { IfOk result (λ pool. pool.log ≡ []) }
+    ensures unworked { IfOk result IsUnworked }
 {
     let asked = questions_for(alloc, mode, &sheet)?;
     Pool::begin(alloc, sheet, asked)
@@ -39,7 +42,7 @@ fn questions_for(alloc: Global, mode: Mode, sheet: &Sheet) -> Result<Vec<Questio
     ensures few { IfOk result (λ asked. length asked.items ≤ 192) }
 {
     match mode {
-        Mode::Verdicts { .. } => questions(alloc, sheet),
+        Mode::Verdicts { .. } | Mode::Save | Mode::Resume { .. } => questions(alloc, sheet),
         Mode::Table | Mode::Scores | Mode::WhatIf | Mode::Check | Mode::Sample { .. } => {
             Ok(Vec::new(alloc))
         }
@@ -57,7 +60,9 @@ pub fn put_answer<K: Sink>(
 ) -> Result<Pool, OutputStop>
     requires live { IsLive mode pool }
     requires askable { IsAskable pool about }
-    ensures answer { AnswersAsk mode pool about (K.holds sink.old) (K.holds sink.new) result }
+    // Whatever trees were saved of which the pool keeps what is known.
+    ensures answer { (saved : Option (List (Option Tree))) → KeepsSaved saved pool
+        → AnswersAsk mode pool about saved (K.holds sink.old) (K.holds sink.new) result }
     ensures live { IfOk result (IsLive mode) }
     ensures counts { CountsPut (K.faults sink.old) (K.faults sink.new) result }
 {
@@ -76,10 +81,17 @@ fn work_out(alloc: Global, mode: Mode, pool: Pool) -> Result<Pool, OutOfMemory>
     ensures same { IfOk result (IsReportedSame pool) }
     ensures live { IfOk result (IsLive mode) }
     ensures worked { IfOk result (IsWorkedOut mode) }
+    ensures kept { IfOk result (λ next. (saved : Option (List (Option Tree)))
+        → KeepsSaved saved pool → KeepsSaved saved next) }
 {
     match mode {
-        Mode::Verdicts { .. } => finish(alloc, pool),
-        Mode::Table | Mode::Scores | Mode::WhatIf | Mode::Check | Mode::Sample { .. } => Ok(pool),
+        Mode::Verdicts { .. } | Mode::Resume { .. } => finish(alloc, pool),
+        Mode::Table
+        | Mode::Scores
+        | Mode::WhatIf
+        | Mode::Save
+        | Mode::Check
+        | Mode::Sample { .. } => Ok(pool),
     }
 }
 
@@ -93,15 +105,18 @@ fn put_worked<K: Sink>(
     requires live { IsLive mode pool.now }
     requires worked { IsWorkedOut mode pool.now }
     requires askable { IsAskable pool.now about }
-    ensures answer { PutsAnswer mode pool.now about (K.holds sink.old) (K.holds sink.new) result }
+    ensures answer { (saved : Option (List (Option Tree))) → KeepsSaved saved pool.now
+        → PutsAnswer mode pool.now about saved (K.holds sink.old) (K.holds sink.new) result }
     ensures counts { CountsPut (K.faults sink.old) (K.faults sink.new) result }
 {
     match mode {
-        Mode::Verdicts { proofs } => put_found(alloc, proofs, pool, sink),
+        Mode::Verdicts { proofs } | Mode::Resume { proofs } => {
+            put_found(alloc, proofs, pool, sink)
+        }
         Mode::Table => put_order(alloc, pool, sink),
         Mode::Scores => put_numbers(alloc, pool, sink),
         Mode::WhatIf => put_outcomes(alloc, pool, about, sink),
-        Mode::Check | Mode::Sample { .. } => Ok(()),
+        Mode::Save | Mode::Check | Mode::Sample { .. } => Ok(()),
     }
 }
 
@@ -111,12 +126,14 @@ fn put_found<K: Sink>(
     pool: &Pool,
     sink: &mut K,
 ) -> Result<(), OutputStop>
-    requires live { IsLive (Verdicts proofs) pool.now }
+    requires live { IsLive (Resume proofs) pool.now }
     requires settled { AreSettled pool.now }
-    ensures answer { PutsAnswer (Verdicts proofs) pool.now None (K.holds sink.old)
-        (K.holds sink.new) result }
+    ensures answer { (saved : Option (List (Option Tree))) → KeepsSaved saved pool.now
+        → PutsAnswer (Resume proofs) pool.now None saved (K.holds sink.old) (K.holds sink.new)
+        result }
     ensures counts { CountsPut (K.faults sink.old) (K.faults sink.new) result }
 {
+    pool.recall_invariant();
     let Ok(found) = verdicts(alloc, pool) else {
         return Err(OutputStop::OutOfMemory);
     };
@@ -132,7 +149,8 @@ fn put_found<K: Sink>(
 
 fn put_order<K: Sink>(alloc: Global, pool: &Pool, sink: &mut K) -> Result<(), OutputStop>
     requires { IsLive Table pool.now }
-    ensures answer { PutsAnswer Table pool.now None (K.holds sink.old) (K.holds sink.new) result }
+    ensures answer { (saved : Option (List (Option Tree)))
+        → PutsAnswer Table pool.now None saved (K.holds sink.old) (K.holds sink.new) result }
     ensures counts { CountsPut (K.faults sink.old) (K.faults sink.new) result }
 {
     let Ok(rows) = table_rows(alloc, pool.sheet(), pool.season()) else {
@@ -143,8 +161,8 @@ fn put_order<K: Sink>(alloc: Global, pool: &Pool, sink: &mut K) -> Result<(), Ou
 
 fn put_numbers<K: Sink>(alloc: Global, pool: &Pool, sink: &mut K) -> Result<(), OutputStop>
     requires { IsLive Scores pool.now }
-    ensures answer { PutsAnswer Scores pool.now None (K.holds sink.old) (K.holds sink.new)
-        result }
+    ensures answer { (saved : Option (List (Option Tree)))
+        → PutsAnswer Scores pool.now None saved (K.holds sink.old) (K.holds sink.new) result }
     ensures counts { CountsPut (K.faults sink.old) (K.faults sink.new) result }
 {
     let Ok(found) = all_scores(alloc, pool.sheet(), pool.season()) else {
@@ -162,8 +180,8 @@ fn put_outcomes<K: Sink>(
 ) -> Result<(), OutputStop>
     requires live { IsLive WhatIf pool.now }
     requires askable { IsAskable pool.now about }
-    ensures answer { PutsAnswer WhatIf pool.now about (K.holds sink.old) (K.holds sink.new)
-        result }
+    ensures answer { (saved : Option (List (Option Tree)))
+        → PutsAnswer WhatIf pool.now about saved (K.holds sink.old) (K.holds sink.new) result }
     ensures counts { CountsPut (K.faults sink.old) (K.faults sink.new) result }
 {
     match about {

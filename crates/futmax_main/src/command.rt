@@ -26,7 +26,7 @@ use worker_gate::Gate;
 /// Runs a command: its words, of which the first is the program's own name, the input and the
 /// output.
 ///
-/// Rows go to the sink as soon as an ask is read, each as one piece. Running out of memory may end
+/// Rows go to the sink as soon as an ask is read. Running out of memory may end
 /// any run, with `Status::OutOfMemory`.
 pub fn futmax<R: Threads + Wait + Sync, S: Source + Send, K: Sink, G: Gate + Sync>(
     rt: &R,
@@ -88,9 +88,12 @@ fn run_mode<R: Threads + Wait + Sync, S: Source + Send, K: Sink, G: Gate + Sync>
     ensures unread { ReadsNothing (Some setup.now.mode) → source.new ≡ source.old }
 {
     match setup.mode {
-        Mode::Verdicts { .. } | Mode::Table | Mode::Scores | Mode::WhatIf => {
-            run_session(setup, source, sink)
-        }
+        Mode::Verdicts { .. }
+        | Mode::Table
+        | Mode::Scores
+        | Mode::WhatIf
+        | Mode::Save
+        | Mode::Resume { .. } => run_session(setup, source, sink),
         Mode::Check => run_check(setup.rt, setup.alloc, source, sink),
         Mode::Sample { seed } => run_sample(setup.alloc, seed, sink),
     }

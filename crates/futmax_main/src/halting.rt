@@ -59,9 +59,12 @@ pub fn next_round<R: Threads + Wait + Sync, S: Source + Send, G: Gate + Sync>(
             let round = read_parsed(alloc, &Steps, pool, reader, source)?;
             Ok(halt_of_steps(round))
         }
-        Mode::Table | Mode::Scores | Mode::Check | Mode::Sample { .. } => {
-            Ok(halt_of(read_round(alloc, pool, reader, source)?))
-        }
+        Mode::Table
+        | Mode::Scores
+        | Mode::Save
+        | Mode::Resume { .. }
+        | Mode::Check
+        | Mode::Sample { .. } => Ok(halt_of(read_round(alloc, pool, reader, source)?)),
     }
 }
 

@@ -2,15 +2,18 @@
 //!
 //! `specs/Top.antt` says what the call promises. It rests on the course of an input, which
 //! `specs/Courses.antt` reads line by line after its sheet, and on the answers of
-//! `specs/Answers.antt`: verdicts from scratch, the table, or the two scores; `specs/Checks.antt`
-//! and `specs/SampleRows.antt` say what the modes without asks write.
+//! `specs/Answers.antt`: verdicts from scratch, the table, or the two scores; `specs/Texts.antt`
+//! says what the mode `save` writes at the end, and `specs/Checks.antt` and `specs/SampleRows.antt`
+//! what the modes without asks write.
 #![tactic(auto)]
 
 mod answer;
 mod check;
+mod closing;
 mod command;
 mod halting;
 mod laws;
+mod opening;
 mod refuse;
 mod rows;
 mod run_end;

@@ -3,13 +3,17 @@
 ghost use Rattle.std.specs.Prelude.{◌≡◌};
 ghost use Rattle.futmax_main.specs.Texts.{status_of_cause};
 ghost use Rattle.futmax_main.specs.inside.Stops.{CountsEnd, CountsStop, FaultEnds, StopEnds};
-ghost use Rattle.futmax_main.specs.inside.Stops.{stop_of_feed, stop_of_read, stop_of_sheet};
+ghost use Rattle.futmax_main.specs.Courses.{save_fault};
+ghost use Rattle.futmax_main.specs.declared.refuse.InputStop.TheVariants.{Refused};
+ghost use Rattle.futmax_main.specs.inside.Stops.{stop_of_feed, stop_of_read, stop_of_save};
+ghost use Rattle.futmax_main.specs.inside.Stops.{stop_of_sheet};
 
 use crate::rows::fault_row;
 use crate::run_end::{Cause, Fault};
 use crate::status::Status;
 use answer_rows::put_row;
 use fixture_sheet::SheetStop;
+use pool_save::SaveStop;
 use port_core::{ReadStop, Sink};
 use result_log::FeedStop;
 use std::alloc::Global;
@@ -48,6 +52,25 @@ pub fn stop_of_feed(stop: FeedStop) -> InputStop
         FeedStop::Read(stop) => stop_of_read(stop),
         FeedStop::OutOfMemory => InputStop::OutOfMemory,
     }
+}
+
+/// Why no saved text is given.
+pub fn stop_of_save(stop: SaveStop) -> InputStop
+    ensures { result ≡ stop_of_save stop }
+{
+    match stop {
+        SaveStop::BadSave { number } => unsaved(number),
+        SaveStop::Read(stop) => stop_of_read(stop),
+        SaveStop::OutOfMemory => InputStop::OutOfMemory,
+    }
+}
+
+/// A line, or the end, where no saved text has it.
+pub fn unsaved(number: u64) -> InputStop
+    ensures { result ≡ Refused (save_fault number) }
+{
+    let cause = Cause::BadSave;
+    InputStop::Refused(Fault { number, cause })
 }
 
 fn stop_of_read(stop: ReadStop) -> InputStop
@@ -97,7 +120,7 @@ fn status_of_cause(cause: Cause) -> Status
 {
     match cause {
         Cause::Sheet(_) => Status::BadSheet,
-        Cause::Feed(_) => Status::BadFeed,
+        Cause::Feed(_) | Cause::BadSave => Status::BadFeed,
         Cause::LineTooLong | Cause::InputTooLong => Status::TooLong,
     }
 }

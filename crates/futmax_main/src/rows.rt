@@ -41,5 +41,6 @@ fn cause_text(cause: Cause) -> &'static str
         Cause::Feed(fault) => fault.code(),
         Cause::LineTooLong => "line_too_long",
         Cause::InputTooLong => "input_too_long",
+        Cause::BadSave => "bad_save",
     }
 }

@@ -15,6 +15,8 @@ pub enum Cause {
     /// The input has more bytes than an input may have, and the first one too many stands in the
     /// line.
     InputTooLong,
+    /// No saved text has the line there, or the input ends before it is whole.
+    BadSave,
 }
 
 /// A refused line, by its number from 1, or the end of the input, by the number after the last

@@ -7,13 +7,13 @@ ghost use Rattle.futmax_main.specs.inside.Statuses.{exit_code};
 /// the input.
 #[derive(Clone, Copy, Debug, PartialEq, Eq)]
 pub enum Status {
-    /// The input was read to its end and every ask was answered.
+    /// The input was read to its end, and every ask that the mode answers was answered.
     Done,
     /// The words of the command fit no mode.
     BadWords,
     /// A line of the sheet is refused.
     BadSheet,
-    /// A line after the sheet is refused.
+    /// A line after the sheet is refused, of a feed or of a saved text.
     BadFeed,
     /// The source failed.
     ReadFault,

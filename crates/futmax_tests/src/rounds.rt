@@ -6,6 +6,7 @@ ghost use Rattle.branch_pool.specs.inside.States.{out_count};
 
 use crate::gates::{set, watch};
 use crate::runs::source_of;
+use answer_rows::questions;
 use branch_pool::{Answer, Pool};
 use league_core::{OutOfMemory, Sheet};
 use port_core::{LineReader, MemSource};
@@ -17,7 +18,6 @@ use std::sync::atomic::AtomicU64;
 use std::test::Fail;
 use std::thread::{Threads, join};
 use std::time::Clock;
-use verdict_run::questions;
 use worker_gate::{OpenGate, RoundEnd, run_round};
 
 /// Sixteen clubs before an open round, and two matches between the first two.

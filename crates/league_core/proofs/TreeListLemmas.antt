@@ -7,8 +7,8 @@ use Rattle.league_core.specs.declared.tree.TreeNode.{TreeNode}
 use Rattle.league_core.specs.declared.tree.TreeNode.TheVariants.{Split, Open, Lent, Refuted}
 use Rattle.league_core.specs.search.Trees.{Tree, open_leaf, lent_leaf, refuted_leaf, branch}
 use Rattle.league_core.specs.search.Trees.{preorder}
-use Rattle.league_core.specs.inside.TreeLists.{with_node, trees_of, only_tree, tree_of, preorders}
-use Rattle.league_core.specs.inside.TreeLists.{tree_of-preorder}
+use Rattle.league_core.specs.search.TreeLists.{with_node, trees_of, only_tree, tree_of, preorders}
+use Rattle.league_core.specs.search.TreeLists.{tree_of-preorder}
 
 -- trees that were read give the list back, one node more at a time
 more_read : (node : TreeNode) (read : Option (List Tree)) (nodes : List TreeNode)

@@ -10,5 +10,4 @@ pub mod PairSums
 pub mod Leaves
 pub mod Lending
 pub mod Pending
-pub mod TreeLists
 pub mod KeptClubs

@@ -10,4 +10,5 @@ pub mod Keys
 pub mod Reasons
 pub mod Proposals
 pub mod Trees
+pub mod TreeLists
 pub mod Splits

@@ -25,17 +25,19 @@ use Rattle.cert_check.specs.declared.expected.RowWord.{RowWord}
 use Rattle.cert_check.specs.declared.expected.RowWord.TheVariants.{Clinched, Lost, Possible}
 use Rattle.cert_check.specs.declared.expected.RowWord.TheVariants.{Unsettled}
 use Rattle.cert_check.specs.declared.expected.Tally.{Tally}
-use Rattle.cert_check.specs.declared.expected.TreeKind.{TreeKind}
-use Rattle.cert_check.specs.declared.token.Token.{Token}
-use Rattle.cert_check.specs.declared.token.Token.TheVariants.{Blank, Row, Proof, Unknown}
+use Rattle.line_tokens.specs.declared.tree_line.TreeKind.{TreeKind}
+use Rattle.line_tokens.specs.declared.token.Token.{Token}
+use Rattle.line_tokens.specs.declared.token.Token.TheVariants.{Blank, Row, Proof, Unknown}
 use Rattle.cert_check.specs.ExpectedItems.{Basis, Expected, ask_row, verdict_row, tree_head}
 use Rattle.cert_check.specs.ExpectedItems.{spent_head, finish_head, both_parts, one_part, nodes}
 use Rattle.cert_check.specs.ExpectedItems.{score, lots, Next, bad, go, after, scores_due}
 use Rattle.cert_check.specs.ExpectedItems.{whole_example, promised, after_tree_head}
 use Rattle.cert_check.specs.ExpectedItems.{after_spent_head, after_finish_head, after_one_part}
 use Rattle.cert_check.specs.ExpectedItems.{after_both_parts, after_leaf, after_node_if}
-use Rattle.cert_check.specs.ExpectedItems.{after_score, after_lots, head_in, node_in, is_ending}
-use Rattle.cert_check.specs.ExpectedItems.{is_reason_for, name_of_club, word_in_row, with_open}
+use Rattle.cert_check.specs.ExpectedItems.{after_score, after_lots, head_in, is_ending}
+use Rattle.line_tokens.specs.TreeNodes.{node_in}
+use Rattle.line_tokens.specs.LineRanges.{is_reason_for, name_of_club}
+use Rattle.cert_check.specs.ExpectedItems.{word_in_row, with_open}
 use Rattle.cert_check.specs.ExpectedItems.{finish_with}
 use Rattle.cert_check.specs.Machine.{Ending, by_next, ending_of, with_unsettled, basis_of}
 use Rattle.par_check.specs.FirstStops.{is_item_due}

@@ -21,10 +21,10 @@ use Rattle.par_check.specs.Checked.{AnswersSo, ending_in, rows_in}
 use Rattle.par_check.proofs.RowAtLemmas.{rows_count}
 use Rattle.result_log.specs.declared.entry.Entry.{Entry}
 use Rattle.result_log.specs.declared.entry.Entry.TheVariants.{Change, Ask, Proofs, End}
-use Rattle.cert_check.specs.declared.token.Token.{Token}
-use Rattle.cert_check.specs.declared.token.Token.TheVariants.{Blank, Row, Proof, Unknown}
+use Rattle.line_tokens.specs.declared.token.Token.{Token}
+use Rattle.line_tokens.specs.declared.token.Token.TheVariants.{Blank, Row, Proof, Unknown}
 use Rattle.cert_check.specs.LineLists.{NumberedLine, tokens_of}
-use Rattle.cert_check.specs.Tokens.{token_of, counts}
+use Rattle.line_tokens.specs.Tokens.{token_of, counts}
 use Rattle.cert_check.specs.ExpectedItems.{Basis, Expected, Next, bad, go, after}
 use Rattle.cert_check.specs.Machine.{Ending, whole_at, bad_line, no_proof, short, by_next}
 use Rattle.cert_check.specs.Machine.{with_unsettled, ending_of, basis_of, part_of_ask}

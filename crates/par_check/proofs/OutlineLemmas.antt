@@ -6,7 +6,7 @@ use Rattle.std.proofs.lemmas.Bool.{false≢true}
 use Rattle.std.proofs.lemmas.List.{map-append, length-replicate}
 use Rattle.league_core.specs.declared.question.Question.{Question}
 use Rattle.league_core.specs.declared.season.Score.{Score}
-use Rattle.cert_check.specs.declared.token.Token.{Token}
+use Rattle.line_tokens.specs.declared.token.Token.{Token}
 use Rattle.cert_check.specs.ExpectedItems.{Basis, verdict_row}
 use Rattle.cert_check.specs.ExpectedItems.{score, after}
 use Rattle.cert_check.specs.Machine.{whole_at, bad_line, short, with_unsettled}

@@ -8,12 +8,12 @@ use Rattle.std.proofs.Math.ListN.{drop_of_length-le}
 use Rattle.std.proofs.lemmas.Bool.{ltb-true, ltb-false}
 use Rattle.std.proofs.lemmas.List.{drop_more, length-map}
 use Rattle.league_core.specs.declared.sheet.Sheet.{Sheet}
-use Rattle.cert_check.specs.declared.token.Token.{Token}
+use Rattle.line_tokens.specs.declared.token.Token.{Token}
 use Rattle.cert_check.specs.declared.item.PartRead.{PartRead}
 use Rattle.cert_check.specs.declared.stop.CheckStopAt.{CheckStopAt}
 use Rattle.cert_check.specs.declared.stop.CheckStopAt.TheVariants as halt
 use Rattle.cert_check.specs.LineLists.{NumberedLine, tokens_of}
-use Rattle.cert_check.specs.Tokens.{token_of}
+use Rattle.line_tokens.specs.Tokens.{token_of}
 use Rattle.cert_check.specs.ExpectedItems.{Basis, Expected, ask_row, verdict_row}
 use Rattle.cert_check.specs.Machine.{Ending, whole_at, bad_line, no_proof, short, part_of_ask}
 use Rattle.cert_check.specs.Machine.{basis_of, rows_of}

@@ -12,15 +12,17 @@ use Rattle.league_core.specs.game.Ranking.{are_lots}
 use Rattle.cert_text.specs.declared.proof_line.ProofLine.{ProofLine}
 use Rattle.cert_text.specs.declared.proof_line.ProofLine.TheVariants as line
 use Rattle.cert_text.specs.TreeLines.{is_test_for}
-use Rattle.cert_check.specs.declared.token.Token.{Token}
-use Rattle.cert_check.specs.declared.token.Token.TheVariants.{Blank, Row, Proof, Unknown}
-use Rattle.cert_check.specs.declared.expected.TreeKind.{TreeKind}
+use Rattle.line_tokens.specs.declared.token.Token.{Token}
+use Rattle.line_tokens.specs.declared.token.Token.TheVariants.{Blank, Row, Proof, Unknown}
+use Rattle.line_tokens.specs.declared.tree_line.TreeKind.{TreeKind}
 use Rattle.cert_check.specs.declared.expected.Tally.{Tally}
 use Rattle.cert_check.specs.ExpectedItems.{Basis, Expected, ask_row, verdict_row, tree_head}
 use Rattle.cert_check.specs.ExpectedItems.{spent_head}
 use Rattle.cert_check.specs.ExpectedItems.{finish_head, both_parts, one_part, nodes, score, lots}
 use Rattle.cert_check.specs.ExpectedItems.{Next, bad, go, after, after_node_if, after_leaf}
-use Rattle.cert_check.specs.ExpectedItems.{node_in, is_reason_for, is_ending, scores_due}
+use Rattle.line_tokens.specs.TreeNodes.{node_in}
+use Rattle.line_tokens.specs.LineRanges.{is_reason_for}
+use Rattle.cert_check.specs.ExpectedItems.{is_ending, scores_due}
 use Rattle.cert_check.specs.ExpectedItems.{after_score}
 use Rattle.cert_check.specs.ExpectedItems.{after_lots}
 use Rattle.cert_check.specs.Machine.{Ending, by_next, with_unsettled}

@@ -2,8 +2,8 @@
 use Rattle.std.proofs.Common.{◌≡◌, ℕ, ◌+◌, List, [], ◌∷◌, ◌++◌, drop, map, Option, Some, None}
 use Rattle.std.proofs.Common.{Bool, true, false, refl, sym, ap, ◌∙◌, append_assoc, drop-drop}
 use Rattle.std.proofs.Common.{if◌then◌else◌}
-use Rattle.cert_check.specs.declared.token.Token.{Token}
-use Rattle.cert_check.specs.declared.token.Token.TheVariants.{Blank, Row, Proof, Unknown}
+use Rattle.line_tokens.specs.declared.token.Token.{Token}
+use Rattle.line_tokens.specs.declared.token.Token.TheVariants.{Blank, Row, Proof, Unknown}
 use Rattle.cert_check.specs.ExpectedItems.{Basis, Expected, ask_row, Next, bad, go, after}
 use Rattle.cert_check.specs.ExpectedItems.{is_ask_row}
 use Rattle.cert_check.specs.Machine.{Ending, whole_at, bad_line, no_proof, short, by_next}

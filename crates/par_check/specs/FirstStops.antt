@@ -3,7 +3,7 @@
 -- line and a club with what its word asks for.
 use Rattle.std.specs.Prelude.{◌≡◌, ℕ, ◌+◌, Bool, true, false, List, [], ◌∷◌, ◌++◌, map, filter}
 use Rattle.std.specs.Prelude.{drop, length, Option, Some, None}
-use Rattle.cert_check.specs.declared.token.Token.{Token}
+use Rattle.line_tokens.specs.declared.token.Token.{Token}
 use Rattle.cert_check.specs.ExpectedItems.{Basis, Expected, ask_row, Next, bad, go}
 use Rattle.cert_check.specs.ExpectedItems.{after}
 use Rattle.cert_check.specs.Machine.{Ending, whole_at, bad_line, no_proof, short, by_next}

@@ -2,7 +2,7 @@
 use Rattle.std.specs.Prelude.{◌≡◌, ◌<◌, ◌≤◌, ℕ, ◌+◌, List, [], ◌∷◌, drop, length, Result, Ok, Err}
 use Rattle.std.specs.Prelude.{if◌then◌else◌, nat_lt, ◌^◌}
 use Rattle.league_core.specs.declared.sheet.Sheet.{Sheet}
-use Rattle.cert_check.specs.declared.token.Token.{Token}
+use Rattle.line_tokens.specs.declared.token.Token.{Token}
 use Rattle.cert_check.specs.declared.item.PartRead.{PartRead}
 use Rattle.cert_check.specs.declared.stop.CheckStopAt.{CheckStopAt}
 use Rattle.cert_check.specs.declared.stop.CheckStopAt.TheVariants as halt

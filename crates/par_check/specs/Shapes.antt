@@ -10,13 +10,15 @@ use Rattle.league_core.specs.game.Ranking.{are_lots}
 use Rattle.cert_text.specs.declared.proof_line.ProofLine.{ProofLine}
 use Rattle.cert_text.specs.declared.proof_line.ProofLine.TheVariants as line
 use Rattle.cert_text.specs.TreeLines.{is_test_for}
-use Rattle.cert_check.specs.declared.token.Token.{Token}
-use Rattle.cert_check.specs.declared.token.Token.TheVariants.{Blank, Row, Proof, Unknown}
-use Rattle.cert_check.specs.declared.expected.TreeKind.{TreeKind}
+use Rattle.line_tokens.specs.declared.token.Token.{Token}
+use Rattle.line_tokens.specs.declared.token.Token.TheVariants.{Blank, Row, Proof, Unknown}
+use Rattle.line_tokens.specs.declared.tree_line.TreeKind.{TreeKind}
 use Rattle.cert_check.specs.ExpectedItems.{Basis, Expected, ask_row, verdict_row, tree_head}
 use Rattle.cert_check.specs.ExpectedItems.{spent_head, finish_head, both_parts, one_part, nodes}
-use Rattle.cert_check.specs.ExpectedItems.{score, lots, Next, bad, go, after, node_in}
-use Rattle.cert_check.specs.ExpectedItems.{is_reason_for, is_ending}
+use Rattle.cert_check.specs.ExpectedItems.{score, lots, Next, bad, go, after}
+use Rattle.line_tokens.specs.TreeNodes.{node_in}
+use Rattle.line_tokens.specs.LineRanges.{is_reason_for}
+use Rattle.cert_check.specs.ExpectedItems.{is_ending}
 use Rattle.cert_check.specs.Machine.{Ending, whole_at, bad_line, short, with_unsettled}
 use Rattle.par_check.specs.FirstStops.{grammar_of}
 

@@ -3,8 +3,8 @@
 ghost use Rattle.std.specs.Prelude.{◌≡◌, ◌<◌, IfOk, IsTrue, Some, [], ◌∷◌, length, suc};
 ghost use Rattle.cert_text.specs.TreeLines.{is_test_for};
 ghost use Rattle.cert_check.specs.ExpectedItems.{Basis};
-ghost use Rattle.cert_check.specs.ExpectedItems as dues;
-ghost use Rattle.cert_check.specs.Tokens.{counts};
+ghost use Rattle.line_tokens.specs.LineRanges as ranges;
+ghost use Rattle.line_tokens.specs.Tokens.{counts};
 ghost use Rattle.par_check.specs.Shapes.{shapes_after, shapes_behind_leaf, shapes_behind_node};
 ghost use Rattle.par_check.specs.Shapes.{some_nodes};
 ghost use Rattle.par_check.specs.Outlines.{question_of, shape_in, shapes_left};
@@ -13,10 +13,9 @@ use crate::item_head::{
     behind_both, behind_finish, behind_lots, behind_one, behind_spent, behind_tree, behind_word,
     next_score,
 };
-use cert_check::{
-    Report, Token, TreeKind, full_question, head_of, is_reason_for, is_test_for, node_of,
-};
+use cert_check::{Report, full_question, head_of};
 use league_core::{Claim, OutOfMemory, Reason, Test, TreeNode};
+use line_tokens::{Token, TreeKind, is_reason_for, is_test_for, node_of};
 
 /// The line and the club of an item.
 #[derive(Clone, Copy)]
@@ -159,7 +158,7 @@ fn may_split(report: &Report, row: ItemRow, claim: Claim, test: Test) -> bool
 
 fn may_refute(report: &Report, row: ItemRow, claim: Claim, reason: Reason) -> bool
     requires { row.club < length report.now.basis.sheet.clubs }
-    ensures { result ≡ dues.is_reason_for report.now.basis.sheet (question_of row claim) reason }
+    ensures { result ≡ ranges.is_reason_for report.now.basis.sheet (question_of row claim) reason }
 {
     report.recall_invariant();
     let question = full_question(row.club, row.line, claim);

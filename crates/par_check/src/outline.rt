@@ -6,8 +6,9 @@ ghost use Rattle.cert_check.specs.Machine.{with_unsettled};
 ghost use Rattle.par_check.specs.Outlines.{OutlinesItem, left_by};
 
 use crate::item_due::{DueAfter, ItemDue, ItemRow, due_after};
-use cert_check::{CheckStopAt, PartRead, Report, Token};
+use cert_check::{CheckStopAt, PartRead, Report};
 use league_core::OutOfMemory;
+use line_tokens::Token;
 use std::alloc::Global;
 use std::collections::VecDeque;
 

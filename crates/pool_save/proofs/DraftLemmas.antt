@@ -1,9 +1,9 @@
 -- A tree that is read node by node: what a node more leaves due, and that nothing due is a tree.
-use Rattle.std.proofs.Common.{◌≡◌, ℕ, Bool, true, false, not, ◌&&◌, ◌||◌, ◌==◌, nat_lt, List, []}
-use Rattle.std.proofs.Common.{◌∷◌, ◌++◌, length, reverse, refl, sym, ap, ◌∙◌, None, ◌<◌, ◌≤◌, arith}
+use Rattle.std.proofs.Common.{◌≡◌, ℕ, Bool, true, false, not, ◌&&◌, ◌||◌, ◌==◌, List, []}
+use Rattle.std.proofs.Common.{◌∷◌, ◌++◌, refl, sym, ap, ◌∙◌, None, ◌<◌, arith}
 use Rattle.std.proofs.lemmas.Bool.{and_parts, ltb-true, lt-ltb, false≢true}
 use Rattle.std.specs.List.{range_with_len}
-use Rattle.std.proofs.lemmas.List.{append_assoc, append-nil, reverse-append}
+use Rattle.std.proofs.lemmas.List.{append_assoc, append-nil}
 use Rattle.league_core.specs.declared.sheet.Sheet.{Sheet}
 use Rattle.league_core.specs.declared.question.Question.{Question}
 use Rattle.league_core.specs.declared.zone.Test.{Test}
@@ -17,16 +17,16 @@ use Rattle.league_core.specs.search.Zones.{is_marked, is_of_rival, marked_before
 use Rattle.league_core.specs.search.Zones.{with_test}
 use Rattle.league_core.specs.search.Zones.{is_test_of}
 use Rattle.league_core.specs.search.Trees.{Tree, open_leaf, refuted_leaf, branch, preorder}
-use Rattle.league_core.specs.inside.TreeLists.{preorders, tree_of}
+use Rattle.league_core.specs.search.TreeLists.{preorders, tree_of}
 use Rattle.league_core.specs.game.Limits.{set_width, most_clubs}
 use Rattle.league_core.proofs.ClubSetLemmas.{has_club-filter, has_club-range}
 use Rattle.league_core.proofs.HalfLemmas.{before_in_half, after_in_half}
 use Rattle.league_core.proofs.TreeListLemmas.{preorder_injective, unread_exact}
 use Rattle.cert_text.specs.Ranges.{is_test_in_range}
 use Rattle.cert_text.specs.TreeLines.{is_test_for}
-use Rattle.cert_check.specs.ExpectedItems.{is_reason_for}
-use Rattle.pool_save.specs.inside.SavedTexts.{IsSavedNode, IsSavedTree}
-use Rattle.pool_save.specs.inside.SavedReadings.{asks_one_of, may_split, with_rival}
+use Rattle.line_tokens.specs.LineRanges.{is_reason_for}
+use Rattle.pool_save.specs.SavedTexts.{IsSavedNode, IsSavedTree}
+use Rattle.pool_save.specs.SavedReadings.{may_split, with_rival}
 use Rattle.pool_save.specs.inside.SoFar.{Marks, IsSavedBy, IsDrafted}
 
 -- ---- marks

@@ -13,15 +13,15 @@ use Rattle.league_core.specs.declared.tree.TreeNode.{TreeNode}
 use Rattle.league_core.specs.declared.tree.TreeNode.TheVariants.{Split, Open, Refuted}
 use Rattle.league_core.specs.declared.zone.Test.{Test}
 use Rattle.league_core.specs.declared.zone.Reason.{Reason}
-use Rattle.league_core.specs.inside.TreeLists.{tree_of}
+use Rattle.league_core.specs.search.TreeLists.{tree_of}
 use Rattle.league_core.specs.game.ClubSets.{clubs_in}
 use Rattle.league_core.specs.search.Trees.{Tree}
-use Rattle.pool_save.specs.inside.SavedReadings.{SaveState, leaf_taken, filled_places, item_begun}
-use Rattle.pool_save.specs.inside.SavedReadings.{is_row_of}
-use Rattle.pool_save.specs.inside.SavedReadings.{goes_on, bad, node_taken, node_taken_if}
-use Rattle.pool_save.specs.inside.SavedReadings.{question_due}
-use Rattle.pool_save.specs.inside.SavedReadings.{may_split, split_taken, with_rival}
-use Rattle.cert_check.specs.ExpectedItems.{is_reason_for}
+use Rattle.pool_save.specs.SavedReadings.{SaveState, leaf_taken, filled_places, item_begun}
+use Rattle.pool_save.specs.SavedReadings.{is_row_of}
+use Rattle.pool_save.specs.SavedReadings.{goes_on, bad, node_taken, node_taken_if}
+use Rattle.pool_save.specs.SavedReadings.{question_due}
+use Rattle.pool_save.specs.SavedReadings.{may_split, split_taken, with_rival}
+use Rattle.line_tokens.specs.LineRanges.{is_reason_for}
 use Rattle.pool_save.specs.inside.SoFar.{IsDrafted, IsItemSoFar, IsSaveState}
 use Rattle.pool_save.proofs.DraftLemmas.{open_taken, refuted_taken}
 use Rattle.pool_save.proofs.SoFarLemmas.{made_there}

@@ -2,6 +2,8 @@ pub mod DraftLemmas
 pub mod SoFarLemmas
 pub mod ReadingLemmas
 pub mod StopLemmas
+pub mod PassedLemmas
+pub mod ElsewhereLemmas
 pub mod WorkedTexts
 pub mod RivalLemmas
 pub mod HeldLemmas
@@ -10,3 +12,11 @@ pub mod OpenLemmas
 pub mod NearlyLemmas
 pub mod SavedBackLemmas
 pub mod OwnRowLemmas
+pub mod SpentLineLemmas
+pub mod SavedPoolLemmas
+pub mod UnspentLemmas
+pub mod UnspentItemLemmas
+pub mod SavingLemmas
+pub mod ItemBodyLemmas
+pub mod ItemBytesLemmas
+pub mod SavedBytesLemmas

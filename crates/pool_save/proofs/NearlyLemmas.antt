@@ -27,7 +27,7 @@ use Rattle.reason_core.specs.declared.piece.Piece.{Piece}
 use Rattle.reason_core.specs.declared.done.Done.{Done}
 use Rattle.reason_core.specs.declared.done.Done.TheVariants.{Refuted, Split, Won, Undone}
 use Rattle.reason_core.specs.inside.Dones.{IsFor, IsTrueDone, finding_of}
-use Rattle.branch_pool.specs.declared.question_state.Example.{Example}
+use Rattle.tree_arena.specs.declared.example.Example.{Example}
 use Rattle.branch_pool.specs.declared.question_state.QuestionState.{QuestionState}
 use Rattle.branch_pool.specs.inside.States.{PoolView}
 use Rattle.branch_pool.specs.inside.Steps.{seat_lent, seat_after, example_after}
@@ -44,8 +44,10 @@ use Rattle.branch_pool.proofs.GoodLemmas.{none_lent_at}
 use Rattle.verdict_run.specs.inside.Working.{AreSettled, FinishesWork}
 use Rattle.verdict_run.proofs.SettledLemmas.{settled_at}
 use Rattle.pool_save.specs.inside.TakingUp.{seat_taken_up, seats_taken_up, pool_taken_up, TakesUp}
-use Rattle.pool_save.specs.inside.Nearly.{HasReasonIfOpen, open_count, IsNearlyRefuted}
-use Rattle.pool_save.specs.inside.Nearly.{IsNearlyKnown, IsNearlyAt, IsNewIfNone, IsNearlyDone}
+use Rattle.pool_save.specs.NearlyDone.{HasReasonIfOpen, IsNearlyRefuted}
+use Rattle.tree_arena.specs.OpenCounts.{open_count}
+use Rattle.pool_save.specs.inside.Nearly.{IsNearlyKnown, IsNearlyAt, IsNewIfNone}
+use Rattle.pool_save.specs.NearlyDone.{IsNearlyDone}
 use Rattle.pool_save.proofs.OpenLemmas.{open_count-put, open_count-none, NodesMeet-opened}
 
 -- ---- one question
@@ -225,7 +227,7 @@ nearly_known sheet season seat (inr nearly) none settled =
     ]
 
 -- a question that is known is not spent
-known_is_unspent : (won refuted spent : Bool) → (won || refuted) ≡ true
+pub known_is_unspent : (won refuted spent : Bool) → (won || refuted) ≡ true
     → (if won then answer.Won else answer_without refuted spent) ≡ answer.Spent → ⊥
 known_is_unspent true refuted spent known same = cc
 known_is_unspent false true spent known same = cc
@@ -265,7 +267,7 @@ taken_at sheet season (first ∷ seats) (tree ∷ trees) (suc place) seat saved 
     taken_at sheet season seats trees place seat saved found own
 
 -- a question that goes on from a saved tree that was nearly done is nearly refuted
-taken_nearly : (sheet : Sheet) (season : Results) (seat : QuestionState) (saved : Option Tree)
+pub taken_nearly : (sheet : Sheet) (season : Results) (seat : QuestionState) (saved : Option Tree)
     → IsNewIfNone seat saved → IsNearlyDone sheet season seat.question saved
     → IsNearlyKnown sheet season (seat_taken_up sheet season saved seat)
 taken_nearly sheet season seat (Some tree) fresh nearly = inr nearly

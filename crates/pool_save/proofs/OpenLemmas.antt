@@ -10,7 +10,7 @@ use Rattle.league_core.specs.search.Zones.{with_test}
 use Rattle.league_core.specs.search.Trees.{Tree, open_leaf, lent_leaf, refuted_leaf, branch}
 use Rattle.league_core.specs.search.Trees.{NodesMeet, has_open}
 use Rattle.league_core.specs.inside.Lending.{times_lent, lent_zones, put}
-use Rattle.pool_save.specs.inside.Nearly.{open_count}
+use Rattle.tree_arena.specs.OpenCounts.{open_count}
 
 -- the open leaves of a new tree come in for each leaf that it replaces
 pub open_count-put : (number : ℕ) (new tree : Tree)

@@ -16,8 +16,8 @@ use Rattle.league_core.specs.game.Questions.{full_question}
 use Rattle.league_core.specs.game.Sheets.{IsWithinLimits, are_different, is_line, same_name}
 use Rattle.league_core.proofs.plain.Texts.{bytes_eq-true, bytes_eq-swap}
 use Rattle.cert_text.specs.Lines.{claim_word}
-use Rattle.cert_check.specs.ExpectedItems.{name_of_club}
-use Rattle.verdict_run.specs.inside.AskedQuestions.{both_questions, questions_of, questions_of_line}
+use Rattle.line_tokens.specs.LineRanges.{name_of_club}
+use Rattle.answer_rows.specs.AskedQuestions.{both_questions, questions_of, questions_of_line}
 use Rattle.pool_save.specs.inside.SavedLaws.{HaveOwnRows, same_row}
 
 -- ---- lists

@@ -11,15 +11,15 @@ use Rattle.port_core.specs.declared.line.ReadStop.TheVariants.{InputTooLong}
 use Rattle.port_core.specs.Contents.{Contents, ended, with_line, with_lines}
 use Rattle.port_core.specs.inside.ReaderCalls.{NextGives}
 use Rattle.fixture_sheet.specs.inside.Calls.{TakesLines}
-use Rattle.cert_check.specs.Tokens.{token_of}
+use Rattle.line_tokens.specs.Tokens.{token_of}
 use Rattle.pool_save.specs.declared.stop.SaveStop.{SaveStop}
 use Rattle.pool_save.specs.declared.stop.SaveStop.TheVariants.{BadSave, Read}
 use Rattle.pool_save.specs.declared.so_far.Taken.{Taken}
 use Rattle.pool_save.specs.declared.so_far.Taken.TheVariants.{On, Whole, Bad}
-use Rattle.pool_save.specs.inside.SavedReadings.{SaveState, SaveStep, goes_on, whole, bad}
-use Rattle.pool_save.specs.inside.SavedReadings.{nothing_saved}
-use Rattle.pool_save.specs.inside.SavedReadings.{save_taken, saved_reading_by, saved_reading_from}
-use Rattle.pool_save.specs.inside.SavedReadings.{saved_reading_of}
+use Rattle.pool_save.specs.SavedReadings.{SaveState, SaveStep, goes_on, whole, bad}
+use Rattle.pool_save.specs.SavedReadings.{nothing_saved}
+use Rattle.pool_save.specs.SavedReadings.{save_taken, saved_reading_by, saved_reading_from}
+use Rattle.pool_save.specs.SavedReadings.{saved_reading_of}
 use Rattle.pool_save.specs.inside.Calls.{LeadsSaved, ReadsSavedAs, ReadsSaved}
 
 -- nothing was read yet

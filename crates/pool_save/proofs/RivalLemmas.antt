@@ -14,7 +14,7 @@ use Rattle.league_core.specs.game.Limits.{set_width}
 use Rattle.league_core.specs.game.Sums.{has_club}
 use Rattle.league_core.specs.search.Zones.{is_of_rival}
 use Rattle.league_core.proofs.ClubSetLemmas.{has_club-clubs_below, clubs_below-filter_range}
-use Rattle.pool_save.specs.inside.SavedReadings.{with_rival}
+use Rattle.pool_save.specs.SavedReadings.{with_rival}
 
 -- a set is the list of those of which a test is true, if exactly they are in it
 set_is : (set : ClubSet) (p : ℕ → Bool) → ((x : ℕ) → has_club (clubs_in set) x ≡ p x)

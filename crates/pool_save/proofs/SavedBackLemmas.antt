@@ -1,47 +1,42 @@
 -- The lines of a saved text are read as its trees, one line after the other.
-use Rattle.std.proofs.Common.{◌≡◌, ℕ, zero, suc, ◌+◌, ◌<◌, Bool, true, false, not, ◌&&◌, ◌||◌, ◌==◌}
-use Rattle.std.proofs.Common.{List, [], ◌∷◌, ◌++◌, length, map, drop, filter, Option, Some, None}
-use Rattle.std.proofs.Common.{Result, Ok, Err, refl, sym, ap, ◌∙◌, subst, arith, append_assoc}
-use Rattle.std.proofs.Common.{append-nil, bytes_eq, codes, decimal, length-append}
+use Rattle.std.proofs.Common.{◌≡◌, ℕ, suc, Bool, true, false, not, ◌&&◌, ◌||◌}
+use Rattle.std.proofs.Common.{List, [], ◌∷◌, ◌++◌, length, map, drop, Option, Some, None}
+use Rattle.std.proofs.Common.{Result, Ok, refl, sym, ap, ◌∙◌, arith, append_assoc}
+use Rattle.std.proofs.Common.{append-nil, bytes_eq, decimal, length-append}
 use Rattle.std.specs.Prelude.{if◌then◌else◌}
 use Rattle.std.specs.List.{slice_get, list_any, list_all}
-use Rattle.std.proofs.lemmas.Bool.{and_parts, and_from, false≢true, ltb-true}
+use Rattle.std.proofs.lemmas.Bool.{and_parts, and_from, false≢true}
 use Rattle.std.proofs.lemmas.List.{map-append}
 use Rattle.league_core.specs.declared.sheet.Sheet.{Sheet}
 use Rattle.league_core.specs.declared.question.Question.{Question}
 use Rattle.league_core.specs.declared.zone.Literal.{Literal}
 use Rattle.league_core.specs.declared.zone.Reason.{Reason}
 use Rattle.league_core.specs.declared.zone.Test.{Test}
-use Rattle.league_core.specs.declared.zone.Test.TheVariants.{Home, Draw, HomeMost, AwayMost, Rival}
 use Rattle.league_core.specs.declared.tree.TreeNode.{TreeNode}
 use Rattle.league_core.specs.declared.tree.TreeNode.TheVariants.{Split, Open, Refuted}
-use Rattle.league_core.specs.game.Limits.{most_clubs, set_width}
 use Rattle.league_core.specs.game.Sheets.{are_different}
-use Rattle.league_core.specs.game.Sums.{has_club}
-use Rattle.league_core.specs.search.Zones.{with_test, is_marked, is_test_of, is_of_rival}
+use Rattle.league_core.specs.search.Zones.{with_test}
 use Rattle.league_core.specs.search.Trees.{Tree, open_leaf, lent_leaf, refuted_leaf, branch}
 use Rattle.league_core.specs.search.Trees.{preorder, NodesMeet}
-use Rattle.league_core.specs.inside.TreeLists.{tree_of}
+use Rattle.league_core.specs.search.TreeLists.{tree_of}
 use Rattle.league_core.proofs.TreeListLemmas.{reading_exact}
 use Rattle.league_core.proofs.plain.Texts.{bytes_eq-itself}
 use Rattle.port_core.specs.declared.line.ReadStop.{ReadStop}
 use Rattle.port_core.specs.Contents.{Contents, with_lines}
 use Rattle.cert_text.specs.Lines.{claim_word}
-use Rattle.cert_text.specs.Ranges.{is_test_in_range}
-use Rattle.cert_text.specs.TreeLines.{marked_line, marked_lines, is_test_for}
-use Rattle.cert_check.specs.declared.token.Token.{Token}
-use Rattle.cert_check.specs.declared.token.Token.TheVariants.{Blank, Row, Proof, Unknown}
-use Rattle.cert_check.specs.declared.expected.TreeKind.TheVariants.{Spent}
-use Rattle.cert_check.specs.Tokens.{token_of, counts, counted_lines}
-use Rattle.cert_check.specs.ExpectedItems.{is_reason_for, name_of_club, node_in}
-use Rattle.pool_save.specs.inside.SavedTexts.{IsSavedNode, AreSavedTrees, saved_fields}
-use Rattle.pool_save.specs.inside.SavedTexts.{saved_items_of, end_fields}
-use Rattle.pool_save.specs.inside.SavedReadings.{SaveState, SaveStep, goes_on, whole, bad}
-use Rattle.pool_save.specs.inside.SavedReadings.{SavedReading, nothing_saved, filled_places}
-use Rattle.pool_save.specs.inside.SavedReadings.{is_row_of, item_begun, row_taken, save_taken}
-use Rattle.pool_save.specs.inside.SavedReadings.{may_split, split_taken, leaf_taken, with_rival}
-use Rattle.pool_save.specs.inside.SavedReadings.{node_taken_if, saved_reading_by}
-use Rattle.pool_save.specs.inside.SavedReadings.{saved_reading_from, saved_reading_of}
+use Rattle.cert_text.specs.TreeLines.{marked_line, marked_lines}
+use Rattle.line_tokens.specs.declared.token.Token.{Token}
+use Rattle.line_tokens.specs.declared.token.Token.TheVariants.{Blank, Row, Proof, Unknown}
+use Rattle.line_tokens.specs.Tokens.{token_of, counted_lines}
+use Rattle.line_tokens.specs.LineRanges.{is_reason_for, name_of_club}
+use Rattle.pool_save.specs.SavedTexts.{IsSavedNode, AreSavedTrees, saved_fields}
+use Rattle.pool_save.specs.SavedTexts.{saved_items_of, end_fields}
+use Rattle.pool_save.specs.SavedReadings.{SaveState, SaveStep, goes_on, whole, bad}
+use Rattle.pool_save.specs.SavedReadings.{SavedReading, nothing_saved, filled_places}
+use Rattle.pool_save.specs.SavedReadings.{is_row_of, item_begun, row_taken, save_taken}
+use Rattle.pool_save.specs.SavedReadings.{may_split, split_taken, leaf_taken, with_rival}
+use Rattle.pool_save.specs.SavedReadings.{node_taken_if, saved_reading_by}
+use Rattle.pool_save.specs.SavedReadings.{saved_reading_from, saved_reading_of}
 use Rattle.pool_save.specs.inside.SavedLaws.{tokens_of_lines, same_row, HaveOwnRows}
 use Rattle.pool_save.specs.inside.SoFar.{Marks}
 use Rattle.pool_save.proofs.DraftLemmas.{marks_half, split_may_come}
@@ -104,7 +99,7 @@ taken-counted sheet asked (Unknown ∷ tokens) state =
     same-by (all_taken sheet asked (counted_lines tokens)) (all_taken sheet asked tokens)
     (save_taken sheet asked state Unknown) (taken-counted sheet asked tokens)
 
--- the reading of an input goes on behind such lines
+-- the reading of an input goes on after such lines
 onward-by : (sheet : Sheet) (asked : List Question) (number : ℕ) (tokens : List Token)
     (rest between : Contents) (onward : SaveState → SavedReading) (state : SaveState)
     (given : SavedReading) (step : SaveStep)
@@ -205,7 +200,7 @@ module _ (sheet : Sheet) (asked : List Question) (trees : List (Option Tree))
       ∙ ap (λ b. if b then goes_on (split_taken (at_part nodes rivals due) test false rivals due)
       else bad) may
 
-  -- the two parts behind a split
+  -- the two parts after a split
   halves_read : (nodes : List TreeNode) (due : List (List ℕ)) (test : Test) (fresh : Bool)
       (yes_half no_half : Tree)
       → part_read trees ((nodes ++ Split test fresh ∷ []) ++ preorder yes_half) no_half due
@@ -276,7 +271,7 @@ length-more : (trees : List (Option Tree)) (tree : Option Tree)
 length-more trees tree = let more = length-append trees (tree ∷ []) in omega (arith, more)
 
 -- the row of a question is its row
-own_row : (sheet : Sheet) (question : Question)
+pub own_row : (sheet : Sheet) (question : Question)
     → is_row_of sheet question (saved_fields sheet question) ≡ true
 own_row sheet question =
     and_from (bytes_eq (decimal question.line) (decimal question.line)
@@ -288,7 +283,7 @@ own_row sheet question =
     (bytes_eq-itself (name_of_club sheet question.club)))
     (bytes_eq-itself (claim_word question.claim))
 
--- the questions that are left behind those without an item
+-- the questions that are left after those without an item
 left_behind : (asked pending rest : List Question) (trees : List (Option Tree))
     → drop (length trees) asked ≡ pending ++ rest
     → drop (length (trees ++ map (λ question. None) pending)) asked ≡ rest
@@ -301,7 +296,7 @@ left_behind asked (question ∷ pending) rest trees left =
     (ap (λ n. drop n asked) (length-more trees None)
     ∙ (first_left asked (pending ++ rest) question (length trees) left).1)
 
--- an item begins behind questions whose rows it has not
+-- an item begins after questions whose rows it has not
 begun_behind : (sheet : Sheet) (pending rest : List Question) (question : Question)
     (trees : List (Option Tree)) (fields : List (List ℕ))
     → list_all (λ before. not (is_row_of sheet before fields)) pending ≡ true
@@ -362,7 +357,7 @@ rest_differ same (first ∷ pending) rest differ =
     (and_parts (not (list_any (same first) (pending ++ rest)))
     (are_different same (pending ++ rest)) differ).1
 
--- the items of the questions that are left are read, behind those without an item
+-- the items of the questions that are left are read, after those without an item
 record AreItemsRead (sheet : Sheet) (asked : List Question) (trees : List (Option Tree))
     (pending rest : List Question) (saved : List (Option Tree)) : Type 0 where
   last : SaveState

@@ -1,35 +1,35 @@
 -- What is read of a saved text stays sound line by line, and a whole one gives trees that may be
 -- saved.
-use Rattle.std.proofs.Common.{◌≡◌, ℕ, suc, zero, ◌+◌, ◌<◌, ◌≤◌, Bool, true, false, ◌==◌, List, []}
+use Rattle.std.proofs.Common.{◌≡◌, ℕ, suc, zero, ◌+◌, ◌≤◌, Bool, true, false, List, []}
 use Rattle.std.proofs.Common.{◌∷◌, ◌++◌}
-use Rattle.std.proofs.Common.{length, drop, map, Option, Some, None, refl, sym, ap, ◌∙◌, subst}
-use Rattle.std.proofs.Common.{length-append, inl, inr, arith, IfSome}
-use Rattle.std.specs.Prelude.{IsTrue, IfOk, Result, Ok, Err, is_some, if◌then◌else◌}
+use Rattle.std.proofs.Common.{length, drop, Option, Some, None, refl, sym, ap, ◌∙◌, subst}
+use Rattle.std.proofs.Common.{length-append, arith, IfSome}
+use Rattle.std.specs.Prelude.{IfOk, Result, Ok, Err, is_some, if◌then◌else◌}
 use Rattle.std.specs.List.{slice_get}
-use Rattle.std.proofs.lemmas.Bool.{cases_Bool}
 use Rattle.std.proofs.lemmas.Option.{none-some, same_Some}
 use Rattle.league_core.specs.declared.sheet.Sheet.{Sheet}
 use Rattle.league_core.specs.declared.question.Question.{Question}
 use Rattle.league_core.specs.declared.tree.TreeNode.{TreeNode}
 use Rattle.league_core.specs.declared.tree.TreeNode.TheVariants.{Split, Open, Lent, Refuted}
 use Rattle.league_core.specs.search.Trees.{Tree}
-use Rattle.league_core.specs.inside.TreeLists.{tree_of}
+use Rattle.league_core.specs.search.TreeLists.{tree_of}
 use Rattle.league_core.proofs.TreeLemmas.{NodesMeet-weaker}
 use Rattle.league_core.proofs.TreeListLemmas.{preorder-tree_of}
-use Rattle.tree_reuse.specs.inside.Asked.{IsAskedNode, IsAskedTree}
-use Rattle.cert_check.specs.declared.token.Token.{Token}
-use Rattle.cert_check.specs.declared.token.Token.TheVariants.{Blank, Row, Proof, Unknown}
-use Rattle.cert_check.specs.declared.expected.TreeKind.TheVariants.{Spent}
-use Rattle.cert_check.specs.ExpectedItems.{is_reason_for, node_in}
-use Rattle.pool_save.specs.inside.SavedTexts.{IsSavedNode, IsSavedTree, AreSavedTrees}
-use Rattle.pool_save.specs.inside.SavedTexts.{AreAskedTrees, AreFirstTreesOf}
-use Rattle.pool_save.specs.inside.SavedReadings.{SaveState, SaveStep, goes_on, whole, bad}
-use Rattle.pool_save.specs.inside.SavedReadings.{nothing_saved}
-use Rattle.pool_save.specs.inside.SavedReadings.{filled_places, is_row_of, is_end_row, item_begun}
-use Rattle.pool_save.specs.inside.SavedReadings.{row_taken}
-use Rattle.pool_save.specs.inside.SavedReadings.{may_split, leaf_taken, split_taken, node_taken}
-use Rattle.pool_save.specs.inside.SavedReadings.{node_taken_if, with_rival}
-use Rattle.pool_save.specs.inside.SavedReadings.{question_due, save_taken}
+use Rattle.tree_reuse.specs.Asked.{IsAskedNode, IsAskedTree}
+use Rattle.line_tokens.specs.declared.token.Token.{Token}
+use Rattle.line_tokens.specs.declared.token.Token.TheVariants.{Blank, Row, Proof, Unknown}
+use Rattle.line_tokens.specs.declared.tree_line.TreeKind.TheVariants.{Spent}
+use Rattle.line_tokens.specs.LineRanges.{is_reason_for}
+use Rattle.line_tokens.specs.TreeNodes.{node_in}
+use Rattle.pool_save.specs.SavedTexts.{IsSavedNode, IsSavedTree, AreSavedTrees}
+use Rattle.pool_save.specs.SavedTexts.{AreAskedTrees, AreFirstTreesOf}
+use Rattle.pool_save.specs.SavedReadings.{SaveState, SaveStep, goes_on, whole, bad}
+use Rattle.pool_save.specs.SavedReadings.{nothing_saved}
+use Rattle.pool_save.specs.SavedReadings.{filled_places, is_row_of, is_end_row, item_begun}
+use Rattle.pool_save.specs.SavedReadings.{row_taken}
+use Rattle.pool_save.specs.SavedReadings.{may_split, leaf_taken, split_taken, node_taken}
+use Rattle.pool_save.specs.SavedReadings.{node_taken_if, with_rival}
+use Rattle.pool_save.specs.SavedReadings.{question_due, save_taken}
 use Rattle.pool_save.specs.inside.SoFar.{IsDrafted, IsItemSoFar, IsSaveState}
 use Rattle.pool_save.proofs.DraftLemmas.{draft_begun, open_taken, refuted_taken, split_drafted}
 use Rattle.pool_save.proofs.DraftLemmas.{draft_whole, draft_is_read}

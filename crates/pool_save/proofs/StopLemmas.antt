@@ -12,7 +12,7 @@ use Rattle.fixture_sheet.specs.LastReads.{ReadsOnWay}
 use Rattle.fixture_sheet.proofs.LastReadLemmas.{way-need, way-more}
 use Rattle.pool_save.specs.declared.stop.SaveStop.{SaveStop}
 use Rattle.pool_save.specs.declared.stop.SaveStop.TheVariants.{BadSave, Read, OutOfMemory}
-use Rattle.pool_save.specs.inside.SavedReadings.{SaveState}
+use Rattle.pool_save.specs.SavedReadings.{SaveState}
 use Rattle.pool_save.specs.inside.Calls.{LeadsSaved, LeadsToState, StepStops, StopsBySave}
 
 module _ {S : Type 0} (left : S → Option (List ℕ)) (reads : S → List ℕ → S → Type 0)

@@ -9,10 +9,10 @@ use Rattle.league_core.specs.declared.question.Question.{Question}
 use Rattle.league_core.specs.game.Results.{Results}
 use Rattle.league_core.specs.search.Trees.{Tree}
 use Rattle.branch_pool.specs.declared.question_state.QuestionState.{QuestionState}
-use Rattle.tree_reuse.specs.inside.Asked.{IsAskedTree}
+use Rattle.tree_reuse.specs.Asked.{IsAskedTree}
 use Rattle.branch_pool.specs.inside.States.{PoolView, out_count}
 use Rattle.branch_pool.specs.inside.Steps.{seat_adopted}
-use Rattle.pool_save.specs.inside.SavedTexts.{AreTreesOf, AreFirstTreesOf}
+use Rattle.pool_save.specs.SavedTexts.{AreTreesOf, AreFirstTreesOf}
 use Rattle.pool_save.specs.inside.TakingUp.{seats_taken_up, pool_taken_up, AdoptsIf}
 
 -- ---- the trees

@@ -1,5 +1,5 @@
 -- Saved texts worked by hand: a league of three clubs with one match left between X and Y, and the
--- trees that C cannot end first. With one rival before C, C is behind; with neither, X and Y take
+-- trees that C cannot end first. With one rival before C, C is after; with neither, X and Y take
 -- two points together, and C has none.
 use Rattle.std.proofs.Common.{◌≡◌, ℕ, suc, Bool, true, false, List, [], ◌∷◌, ◌++◌, Option, Some}
 use Rattle.std.proofs.Common.{None}
@@ -15,13 +15,13 @@ use Rattle.league_core.specs.game.ClubSets as sets
 use Rattle.league_core.specs.game.Questions.{full_question}
 use Rattle.league_core.specs.search.Trees.{Tree, open_leaf, refuted_leaf, branch}
 use Rattle.cert_text.specs.declared.proof_line.ProofLine.TheVariants as line
-use Rattle.cert_check.specs.declared.token.Token.{Token}
-use Rattle.cert_check.specs.declared.token.Token.TheVariants.{Blank, Row, Proof, Unknown}
+use Rattle.line_tokens.specs.declared.token.Token.{Token}
+use Rattle.line_tokens.specs.declared.token.Token.TheVariants.{Blank, Row, Proof, Unknown}
 use Rattle.std.specs.Fmt.{digits}
-use Rattle.pool_save.specs.inside.SavedTexts.{lines_of_saved}
-use Rattle.pool_save.specs.inside.SavedReadings.{SaveState, SaveStep, goes_on, whole, bad}
-use Rattle.pool_save.specs.inside.SavedReadings.{nothing_saved}
-use Rattle.pool_save.specs.inside.SavedReadings.{save_taken, with_rival}
+use Rattle.pool_save.specs.SavedTexts.{lines_of_saved}
+use Rattle.pool_save.specs.SavedReadings.{SaveState, SaveStep, goes_on, whole, bad}
+use Rattle.pool_save.specs.SavedReadings.{nothing_saved}
+use Rattle.pool_save.specs.SavedReadings.{save_taken, with_rival}
 
 abbrev idle : Sheet
 idle = record {

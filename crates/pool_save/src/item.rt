@@ -3,14 +3,13 @@
 ghost use Rattle.std.specs.Prelude.{◌≡◌, ◌<◌, IfOk, length};
 ghost use Rattle.cert_text.specs.Lines.{claim_word};
 ghost use Rattle.cert_text.specs.TreeLines.{marked_lines};
-ghost use Rattle.pool_save.specs.inside.SavedItems.{item_row};
+ghost use Rattle.pool_save.specs.SavedItems.{item_row};
 
-use answer_rows::{club_name, number_field, text_field};
+use answer_rows::{club_name, number_field, spent_lines, text_field};
 use cert_text::{ProofLine, write_row};
 use league_core::{Claim, OutOfMemory, Question, Sheet};
 use std::alloc::Global;
 use tree_reuse::Tree;
-use verdict_run::spent_lines;
 
 /// The row of the item of a question: `saved,K,CLUB,CLAIM`.
 pub fn item_row(alloc: Global, sheet: &Sheet, question: &Question) -> Result<Vec<u8>, OutOfMemory>

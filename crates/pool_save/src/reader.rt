@@ -6,23 +6,25 @@ ghost use Rattle.league_core.specs.game.Questions.{IsQuestionOf};
 ghost use Rattle.port_core.specs.Contents.{Contents};
 ghost use Rattle.port_core.specs.Readers.{TakesInput, contents_to_come};
 ghost use Rattle.tree_arena.specs.inside.Calls.{most_nodes};
-ghost use Rattle.cert_check.specs.Tokens.{token_of};
-ghost use Rattle.verdict_run.specs.inside.AskedQuestions.{questions_of};
-ghost use Rattle.pool_save.specs.inside.SavedTexts.{AreAskedTrees, AreSavedTrees};
-ghost use Rattle.pool_save.specs.inside.SavedReadings.{save_taken};
+ghost use Rattle.fixture_sheet.specs.inside.Calls.{PassesUpTo};
+ghost use Rattle.line_tokens.specs.Tokens.{token_of};
+ghost use Rattle.answer_rows.specs.AskedQuestions.{questions_of};
+ghost use Rattle.pool_save.specs.SavedTexts.{AreAskedTrees, AreSavedTrees};
+ghost use Rattle.pool_save.specs.SavedReadings.{save_taken};
 ghost use Rattle.pool_save.specs.inside.SoFar.{IsSaveState, save_step_of};
 ghost use Rattle.pool_save.specs.inside.Calls.{CountsSaved, LeadsSaved, LeavesSaved, ReadsSaved};
 ghost use Rattle.pool_save.specs.inside.Calls.{StepLeaves, SaveStepMoves, SaveStepReads, StepSound};
 ghost use Rattle.pool_save.specs.inside.Calls.{StepGrows, StepStops, StopsAtSaved, given_as};
+ghost use Rattle.pool_save.specs.inside.Calls.{saved_answer_after};
 
 use crate::so_far::{SavedSoFar, Taken};
 use crate::stop::SaveStop;
-use cert_check::read_token;
+use answer_rows::questions;
 use league_core::{OutOfMemory, Question, Sheet};
+use line_tokens::read_token;
 use port_core::{Line, LineReader, Source};
 use std::alloc::Global;
 use tree_arena::Tree;
-use verdict_run::questions;
 
 /// Reads a saved text up to and with the line `saved_end`: for each question about the sheet its
 /// tree, if it has an item. On return the reader is at the line after, or after the bad line. On
@@ -43,7 +45,10 @@ pub fn read_saved<S: Source>(
     ensures asked { IfOk result (λ trees.
         AreAskedTrees sheet.now (questions_of sheet.now) trees.items) }
 
-    // Where the reader is left, and that reading stops at the read that completes the answer.
+    // Which lines of the input were passed, whole, where the reader is left, and that reading stops
+    // at the read that completes the answer.
+    ensures passes { PassesUpTo reader.old reader.new (S.left source.old) (S.left source.new)
+        (S.ended source.old) (S.ended source.new) (saved_answer_after reader.new result) }
     ensures leaves { LeavesSaved reader.new (S.left source.new) result }
     ensures takes { TakesInput reader.old reader.new (S.left source.old) (S.left source.new) }
     ensures last { StopsAtSaved sheet.now (questions_of sheet.now) S.left S.reads reader.old
@@ -70,6 +75,8 @@ fn read_items<S: Source>(
         (contents_to_come reader.old (S.left source.old))
         (contents_to_come reader.new (S.left source.new)) (given_as result (λ trees. trees.items)) }
     ensures trees { IfOk result (λ trees. AreSavedTrees sheet.now asked.now trees.items) }
+    ensures passes { PassesUpTo reader.old reader.new (S.left source.old) (S.left source.new)
+        (S.ended source.old) (S.ended source.new) (saved_answer_after reader.new result) }
     ensures leaves { LeavesSaved reader.new (S.left source.new) result }
     ensures takes { TakesInput reader.old reader.new (S.left source.old) (S.left source.new) }
     ensures last { StopsAtSaved sheet.now asked.now S.left S.reads reader.old reader.new source.old
@@ -110,6 +117,8 @@ fn take_line<S: Source>(
     ensures sound { StepSound sheet.now asked.now held.new result }
     ensures few { StepGrows held.old held.new result }
     ensures moves { SaveStepMoves reader.old reader.new result }
+    ensures passes { PassesUpTo reader.old reader.new (S.left source.old) (S.left source.new)
+        (S.ended source.old) (S.ended source.new) (saved_answer_after reader.new result) }
     ensures leaves { StepLeaves reader.new (S.left source.new) result }
     ensures takes { TakesInput reader.old reader.new (S.left source.old) (S.left source.new) }
     ensures last { StepStops S.left S.reads reader.old reader.new source.old source.new result }

@@ -1,10 +1,10 @@
-//! The rows of a saved text: that of an item, and the one behind the items.
+//! The rows of a saved text: that of an item, and the one after the items.
 
 ghost use Rattle.std.specs.Prelude.{◌≡◌, ◌<◌, ◌==◌, ◌&&◌, IfOk, length};
 ghost use Rattle.std.specs.Prelude.{bytes_eq, codes, string_bytes, decimal};
 ghost use Rattle.fixture_sheet.specs.Fields.{field};
 ghost use Rattle.cert_text.specs.Lines.{claim_word};
-ghost use Rattle.pool_save.specs.inside.SavedReadings.{is_row_of, is_end_row};
+ghost use Rattle.pool_save.specs.SavedReadings.{is_row_of, is_end_row};
 
 use fixture_sheet::Fields;
 use league_core::{Claim, OutOfMemory, Question, Sheet};
@@ -54,7 +54,7 @@ fn decimal_of(alloc: Global, number: u64) -> Result<String, OutOfMemory>
     Ok(text?)
 }
 
-/// The fields are the row behind the items.
+/// The fields are the row after the items.
 pub fn is_end_row(fields: &Fields) -> bool
     ensures { result ≡ is_end_row fields.now }
 {

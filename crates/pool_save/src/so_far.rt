@@ -8,19 +8,19 @@ ghost use Rattle.league_core.specs.game.Questions.{IsQuestionOf};
 ghost use Rattle.league_core.specs.game.ClubSets.{clubs_in};
 ghost use Rattle.league_core.specs.declared.question.Question.{Question};
 ghost use Rattle.league_core.specs.search.Zones.{is_of_rival};
-ghost use Rattle.league_core.specs.inside.TreeLists.{tree_of};
+ghost use Rattle.league_core.specs.search.TreeLists.{tree_of};
 ghost use Rattle.tree_arena.specs.inside.Calls.{most_nodes};
-ghost use Rattle.pool_save.specs.inside.SavedReadings.{nothing_saved, save_taken, row_taken};
-ghost use Rattle.pool_save.specs.inside.SavedReadings.{item_begun, node_taken_if, question_due};
-ghost use Rattle.pool_save.specs.inside.SavedReadings.{filled_places};
-ghost use Rattle.pool_save.specs.inside.SavedReadings.{goes_on, leaf_taken, with_rival};
-ghost use Rattle.pool_save.specs.inside.SavedReadings.{asks_one_of, may_split};
+ghost use Rattle.pool_save.specs.SavedReadings.{nothing_saved, save_taken, row_taken};
+ghost use Rattle.pool_save.specs.SavedReadings.{item_begun, node_taken_if, question_due};
+ghost use Rattle.pool_save.specs.SavedReadings.{filled_places};
+ghost use Rattle.pool_save.specs.SavedReadings.{goes_on, leaf_taken, with_rival};
+ghost use Rattle.pool_save.specs.SavedReadings.{asks_one_of, may_split};
 ghost use Rattle.pool_save.specs.inside.SoFar.{save_step_of, IsSaveState};
 
 use crate::row::{is_end_row, is_row_of};
-use cert_check::{Token, TreeKind, is_reason_for, is_test_for, node_of};
 use fixture_sheet::Fields;
 use league_core::{ClubSet, OutOfMemory, Question, Sheet, Test, TreeNode};
+use line_tokens::{Token, TreeKind, is_reason_for, is_test_for, node_of};
 use std::alloc::Global;
 use std::marker::Model;
 use std::mem;
@@ -49,9 +49,9 @@ pub struct SavedSoFar {
 impl Model for SavedSoFar {
     ghost use Rattle.std.specs.Prelude.{map, reverse};
     ghost use Rattle.league_core.specs.game.ClubSets.{clubs_in};
-    ghost use Rattle.pool_save.specs.inside.SavedReadings.{SaveState};
+    ghost use Rattle.pool_save.specs.SavedReadings.{SaveState};
     ghost use Rattle.std.specs.Coded.{codes};
-    ghost use Rattle.league_core.specs.inside.TreeLists.{coded_tree};
+    ghost use Rattle.league_core.specs.search.TreeLists.{coded_tree};
     ghost use Rattle.league_core.specs.contracts.tree.TreeNode as node;
 
     ghost Value = { SaveState };

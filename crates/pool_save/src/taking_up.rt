@@ -3,8 +3,8 @@
 ghost use Rattle.std.specs.Prelude.{◌≡◌, ◌<◌, IfOk, IfSome, OnOk, length};
 ghost use Rattle.std.specs.List.{slice_get};
 ghost use Rattle.branch_pool.specs.inside.States.{out_count};
-ghost use Rattle.tree_reuse.specs.inside.Asked.{IsAskedTree};
-ghost use Rattle.pool_save.specs.inside.SavedTexts.{AreAskedTrees};
+ghost use Rattle.tree_reuse.specs.Asked.{IsAskedTree};
+ghost use Rattle.pool_save.specs.SavedTexts.{AreAskedTrees};
 ghost use Rattle.pool_save.specs.inside.TakingUp.{AdoptsIf, TakesUp};
 
 use branch_pool::Pool;

@@ -5,7 +5,7 @@ use Rattle.std.specs.List.{slice_get}
 use Rattle.std.specs.Option.{option_map}
 use Rattle.league_core.specs.search.Trees.{Tree}
 use Rattle.league_core.proofs.plain.Slots.{found_at}
-use Rattle.tree_reuse.specs.inside.Asked.{IsAskedTree}
+use Rattle.tree_reuse.specs.Asked.{IsAskedTree}
 use Rattle.branch_pool.specs.declared.question_state.QuestionState.{QuestionState}
 use Rattle.branch_pool.specs.inside.States.{PoolView}
 use Rattle.branch_pool.specs.inside.Goodness.{IsSoundPool}

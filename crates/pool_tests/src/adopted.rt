@@ -7,8 +7,8 @@
 ghost use Rattle.std.specs.Prelude.{◌≡◌, IfOk, IfSome};
 ghost use Rattle.std.specs.List.{slice_get};
 ghost use Rattle.league_core.specs.game.Sheets.{IsWithinLimits};
-ghost use Rattle.tree_reuse.specs.inside.Asked.{IsAskedTree};
-ghost use Rattle.verdict_run.specs.inside.AskedQuestions.{questions_of};
+ghost use Rattle.tree_reuse.specs.Asked.{IsAskedTree};
+ghost use Rattle.answer_rows.specs.AskedQuestions.{questions_of};
 
 use crate::help::{finished, pool_of_sheet, tell};
 use crate::rows::{Tree as Seen, seen_at};

@@ -11,13 +11,13 @@
 ghost use Rattle.std.specs.Prelude.{◌≡◌, ◌<◌, IsTrue, None, length, slice_index_or};
 ghost use Rattle.league_core.specs.game.Seasons.{IsLeague};
 
+use answer_rows::{Verdict, Word};
 use league_core::{Season, Sheet};
 use port_core::{LineReader, MemSource};
 use result_log::{Entry, FeedFault, FeedStop};
 use sample_leagues::{Sample, sample_of};
 use std::alloc::Global;
 use std::test::Fail;
-use verdict_run::{Verdict, Word};
 use what_if::{Outcome, Step, base_zone, next_step, outcomes_are_bases, verdicts_given};
 
 const THREE: &[u8] = b"league,Three,1\nclub,A,1\nclub,B,2\nclub,C,3\nmatch,A,B\nmatch,C,A\n\

@@ -6,16 +6,17 @@ ghost use Rattle.league_core.specs.game.Seasons.{IsEventOf};
 ghost use Rattle.league_core.specs.game.Sheets.{IsWithinLimits};
 ghost use Rattle.reason_core.specs.inside.Dones.{IsFor, IsTrueDone};
 ghost use Rattle.branch_pool.specs.inside.States.{out_count};
-ghost use Rattle.verdict_run.specs.inside.AskedQuestions.{questions_of};
+ghost use Rattle.answer_rows.specs.AskedQuestions.{questions_of};
 
 use crate::eligibility::{are_questions_of, done_of};
+use answer_rows::questions;
 use branch_pool::{Answer, Gave, Pool, Ticket, Took};
 use league_core::{Event, OutOfMemory, Question, Season, Sheet, TreeNode};
 use reason_core::Done;
 use sample_leagues::sample_of;
 use std::alloc::Global;
 use std::test::Fail;
-use verdict_run::{finish, questions};
+use verdict_run::finish;
 
 /// The pool of a sheet and all that is asked of it, with nothing reported.
 pub fn pool_of(alloc: Global, text: &[u8]) -> Result<Pool, Fail> {

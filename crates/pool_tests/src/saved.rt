@@ -4,10 +4,11 @@
 
 ghost use Rattle.std.specs.Prelude.{IfOk};
 ghost use Rattle.league_core.specs.game.Sheets.{IsWithinLimits};
-ghost use Rattle.verdict_run.specs.inside.AskedQuestions.{questions_of};
-ghost use Rattle.pool_save.specs.inside.SavedTexts.{AreAskedTrees};
+ghost use Rattle.answer_rows.specs.AskedQuestions.{questions_of};
+ghost use Rattle.pool_save.specs.SavedTexts.{AreAskedTrees};
 
 use crate::help::{answer_at, finished, pool_of_sheet, units_at};
+use answer_rows::questions;
 use branch_pool::Answer;
 use league_core::{Sheet, TreeNode};
 use pool_save::{SaveStop, item_lines, item_row, read_saved, take_up};
@@ -17,7 +18,6 @@ use std::alloc::Global;
 use std::fmt::Write;
 use std::test::Fail;
 use tree_arena::Tree;
-use verdict_run::questions;
 
 const LEAGUE: &[u8] = b"league,Idle,1,1\nclub,C,1\nclub,X,2\nclub,Y,3\nmatch,X,Y\nline,1\nseason\n";
 

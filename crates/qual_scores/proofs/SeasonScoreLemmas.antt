@@ -7,7 +7,7 @@ use Rattle.league_core.specs.declared.question.Claim.TheVariants.{Inside}
 use Rattle.league_core.specs.game.Results.{Results, are_results}
 use Rattle.league_core.specs.game.Seasons.{IsLeague}
 use Rattle.answer_rows.specs.Items.{AnswerRow, answer_rows}
-use Rattle.verdict_run.proofs.RowLemmas.{IsRowOf, rows_asked}
+use Rattle.answer_rows.proofs.RowLemmas.{IsRowOf, rows_asked}
 use Rattle.answer_rows.specs.declared.bound.Bound.{Bound}
 use Rattle.answer_rows.specs.declared.bound.Bound.TheVariants.{Known, None}
 use Rattle.answer_rows.specs.declared.bound.Score2.{Score2}

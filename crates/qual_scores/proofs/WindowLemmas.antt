@@ -19,10 +19,10 @@ use Rattle.cert_text.specs.Ranges.{is_in_range, are_points}
 use Rattle.cert_text.specs.TreeLines.{IsRefutationTree, IsFairSpentTree, marked_lines}
 use Rattle.cert_text.specs.TreeLines.{with_window_head}
 use Rattle.cert_text.proofs.TreeRangeLemmas.{marked_lines_in_range}
-use Rattle.verdict_run.specs.declared.fresh.Solved.{Solved}
-use Rattle.verdict_run.specs.declared.fresh.Solved.TheVariants.{Won, Refuted, Spent}
+use Rattle.answer_rows.specs.declared.solved.Solved.{Solved}
+use Rattle.answer_rows.specs.declared.solved.Solved.TheVariants.{Won, Refuted, Spent}
 use Rattle.verdict_run.specs.inside.Solving.{IsSolved}
-use Rattle.verdict_run.proofs.ShownLemmas.{refutation_is_true}
+use Rattle.answer_rows.proofs.PartLemmas.{refutation_is_true}
 use Rattle.qual_scores.specs.declared.window.WindowAnswer.{WindowAnswer}
 use Rattle.qual_scores.specs.declared.window.WindowAnswer.TheVariants as said
 use Rattle.league_core.specs.game.Verdicts.{HasNoExample}

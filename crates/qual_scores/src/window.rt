@@ -6,11 +6,12 @@ ghost use Rattle.league_core.specs.game.Questions.{IsQuestionOf, full_question};
 ghost use Rattle.qual_scores.specs.inside.Searching.{MayBeAsked, IsWindowAnswer, window_answer};
 ghost use Rattle.qual_scores.specs.inside.Searching.{question_sought};
 
+use answer_rows::{Solved, window_lines};
 use cert_text::ProofLine;
 use league_core::limits::{MOST_DEDUCTION, MOST_POINTS};
 use league_core::{Claim, OutOfMemory, Question, Season, Sheet};
 use std::alloc::Global;
-use verdict_run::{Solved, solve_fresh, window_lines};
+use verdict_run::solve_fresh;
 
 /// The number that is sought: for `Inside` the possible score, for `Outside` the guaranteed one.
 #[derive(Clone, Copy)]

@@ -3,7 +3,7 @@ use Rattle.std.proofs.Common.{◌≡◌, ℕ, ◌+◌, ◌<◌, List, [], ◌∷
 use Rattle.std.proofs.Common.{reverse, Option, Some, None, sym, ap, ◌∙◌, add-one, drop-cons, arith}
 use Rattle.league_core.specs.declared.tree.TreeNode.{TreeNode}
 use Rattle.league_core.specs.search.Trees.{Tree, preorder}
-use Rattle.league_core.specs.inside.TreeLists.{with_node, trees_of, only_tree, tree_of}
+use Rattle.league_core.specs.search.TreeLists.{with_node, trees_of, only_tree, tree_of}
 use Rattle.league_core.proofs.TreeListLemmas.{preorder-tree_of}
 use Rattle.tree_arena.proofs.ListLemmas.{trees_of-none}
 

@@ -29,7 +29,7 @@ pub(crate) enum Node {
 
 impl Model for BoxedTree {
     ghost use Rattle.league_core.specs.search.Trees as trees;
-    ghost use Rattle.league_core.specs.inside.TreeLists.{coded_tree};
+    ghost use Rattle.league_core.specs.search.TreeLists.{coded_tree};
 
     ghost Value = { trees.Tree };
 

@@ -7,8 +7,8 @@ ghost use Rattle.league_core.specs.search.Options.{has_finish};
 ghost use Rattle.league_core.specs.search.Reasons.{has_reason};
 ghost use Rattle.league_core.specs.search.Trees.{branch};
 ghost use Rattle.tree_arena.specs.inside.Calls.{AreTestsOf};
-ghost use Rattle.tree_reuse.specs.inside.Retargets.{halves_in, halves_by, leaf_kept, retargeted};
-ghost use Rattle.tree_reuse.specs.inside.Retargets.{retargeted_from};
+ghost use Rattle.tree_reuse.specs.Retargets.{halves_in, halves_by, leaf_kept, retargeted};
+ghost use Rattle.tree_reuse.specs.Retargets.{retargeted_from};
 ghost use Rattle.reference_programs.specs.inside.Boxed.{HasTestsOf};
 
 use crate::boxed::{BoxedTree, Node};

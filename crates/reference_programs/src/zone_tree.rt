@@ -8,7 +8,7 @@ ghost use Rattle.league_core.specs.search.Trees.{open_leaf, refuted_leaf, branch
 ghost use Rattle.league_core.specs.search.Trees.{has_open, is_refuted, preorder, zones_of};
 ghost use Rattle.league_core.specs.inside.Lending.{times_lent, lent_count, put, all_opened};
 ghost use Rattle.tree_arena.specs.inside.Calls.{AreTestsOf, Lending, literals_of, most_nodes};
-ghost use Rattle.tree_reuse.specs.inside.Retargets.{retargeted};
+ghost use Rattle.tree_reuse.specs.Retargets.{retargeted};
 ghost use Rattle.tree_arena.specs.inside.Stops.{WhyNoTree};
 
 use league_core::{OutOfMemory, Question, Reason, Season, Sheet, Test, TreeNode, Zone};

@@ -7,6 +7,7 @@ use Rattle.std.specs.List.{flat_map}
 use Rattle.std.proofs.lemmas.List.{length-append}
 use Rattle.std.proofs.lemmas.List.Elements.{All-nil}
 use Rattle.league_core.specs.declared.sheet.Sheet.{Sheet}
+use Rattle.league_core.specs.declared.season.Event.{Event}
 use Rattle.league_core.specs.game.Seasons.{IsEventOf, unplayed_season}
 use Rattle.port_core.specs.Lines.{lines_of}
 use Rattle.port_core.specs.Contents.{Contents, Position, contents_from, contents_of, content_at}
@@ -15,9 +16,13 @@ use Rattle.port_core.specs.Contents.{with_line, with_lines, without_mark, withou
 use Rattle.port_core.proofs.LineLemmas.{AreLines-lines_of, concat-lines_of}
 use Rattle.fixture_sheet.specs.declared.fault.SheetStop.{SheetStop}
 use Rattle.fixture_sheet.specs.Sheets.{SheetReading, sheet_reading_from, sheet_reading_of}
+use Rattle.result_log.specs.declared.entry.Entry.{Entry}
+use Rattle.result_log.specs.declared.entry.Entry.TheVariants.{Change, Ask, Proofs, End}
+use Rattle.result_log.specs.declared.fault.FeedStop.{FeedStop}
 use Rattle.result_log.specs.Feeds.{feed_of}
+use Rattle.result_log.specs.inside.FeedParts.{events_after}
 use Rattle.result_log.proofs.FeedLemmas.{feed_of-log}
-use Rattle.cert_check.specs.declared.token.Token.{Token}
+use Rattle.line_tokens.specs.declared.token.Token.{Token}
 use Rattle.cert_check.specs.declared.outcome.CheckOutcome.TheVariants.{Accepted}
 use Rattle.cert_check.specs.Outcomes.{numbered, outcome_of_feed}
 use Rattle.cert_check.specs.Outcomes.{outcome_of_report, outcome_of_sheet}
@@ -27,10 +32,10 @@ use Rattle.command_words.specs.declared.command.Mode.TheVariants.{Verdicts}
 use Rattle.futmax_main.specs.declared.run_end.RunEnd.{RunEnd}
 use Rattle.futmax_main.specs.declared.run_end.RunEnd.TheVariants.{Complete}
 use Rattle.futmax_main.specs.Checks.{ComesTo}
-use Rattle.futmax_main.specs.Courses.{Course, course_of}
-use Rattle.futmax_main.specs.Rows.{last_row}
-use Rattle.futmax_main.specs.Texts.{AreAnswers}
-use Rattle.futmax_main.specs.inside.FeedCourses.{asks_in, course_with_feed, outcome_at_feed}
+use Rattle.futmax_main.specs.Courses.{Course, Origin, course_after, course_of, first_origin}
+use Rattle.futmax_main.specs.Plays.{Played}
+use Rattle.futmax_main.specs.Texts.{AreAnswers, IsLastText}
+use Rattle.futmax_main.specs.inside.FeedCourses.{asks_in, course_at_close, outcome_at_feed}
 use Rattle.futmax_main.proofs.CourseLemmas.{course-of_feed}
 use Rattle.futmax_main.proofs.LimitLemmas.{GivesLimits, sheet-limits}
 use Rattle.report_laws.specs.inside.AcceptedReports.{rows_written}
@@ -43,7 +48,7 @@ use Rattle.report_laws.proofs.KnownEndLemmas.{done-complete, feed-unrefused, she
 use Rattle.report_laws.proofs.LineReadLemmas.{contents-text}
 use Rattle.report_laws.proofs.PutLemmas.{ArePut, ReadsAs, put-back}
 use Rattle.report_laws.proofs.ReportLemmas.{ArePartsRead, report_of_parts}
-use Rattle.report_laws.proofs.WithinLemmas.{no_feed}
+use Rattle.cert_check.proofs.WithinLemmas.{no_feed}
 
 -- ---- the bytes
 
@@ -149,21 +154,25 @@ module _ (input text : List ℕ) (inside : length (input_with_answers input text
   -- a session of this course that is complete writes only what is accepted
   abbrev WritesAccepted : Course → Type 0
   WritesAccepted course =
-      (answers : List ℕ) (made : AreAnswers (Verdicts true) course.asks answers)
-      → course.outcome ≡ Complete → text ≡ answers
+      (answers last : List ℕ) (made : AreAnswers (Verdicts true) course.asks answers)
+      → course.outcome ≡ Complete → IsLastText course.outcome course.closing last
+      → text ≡ answers ++ last
       → IsAccepted (rows_of_asks course.asks) (unsettled_told course.asks answers made)
+
+  -- what these entries ask
+  abbrev asked : Sheet → List Entry → List Played
+  asked sheet entries = asks_in (Verdicts true) (first_origin sheet) entries []
 
   -- one whose text is all of the answers
   with_text : (sheet : Sheet) (rest : Contents)
       → sheet_reading_of contents None ≡ record { gives = Ok sheet; rest = rest }
       → outcome_at_feed (feed_of sheet false rest []).close ≡ Complete
-      → (made : AreAnswers (Verdicts true) (asks_in sheet (feed_of sheet false rest []).entries [])
-      text)
-      → IsAccepted (rows_of_asks (asks_in sheet (feed_of sheet false rest []).entries []))
-      (unsettled_told (asks_in sheet (feed_of sheet false rest []).entries []) text made)
+      → (made : AreAnswers (Verdicts true) (asked sheet (feed_of sheet false rest []).entries) text)
+      → IsAccepted (rows_of_asks (asked sheet (feed_of sheet false rest []).entries))
+      (unsettled_told (asked sheet (feed_of sheet false rest []).entries) text made)
   with_text sheet rest is complete made =
       let entries = (feed_of sheet false rest []).entries in
-      let unsettled = unsettled_told (asks_in sheet entries []) text made in
+      let unsettled = unsettled_told (asked sheet entries) text made in
       let found = sheet_read contents sheet rest is in
       let limits = subst GivesLimits (ap (λ (r : SheetReading). r.gives) is)
       (sheet-limits contents) in
@@ -179,16 +188,54 @@ module _ (input text : List ℕ) (inside : length (input_with_answers input text
       comes-to input text sheet rest unsettled read is before given
       ∙ ap (λ (rows : ℕ). Some (Accepted rows unsettled)) (rows-same sheet entries [])
 
+  -- a session that is complete, of such a feed, has nothing more to write
+  last_none : (origin : Origin) (close : Result Entry FeedStop) (events : List Event)
+      (last : List ℕ) → (course_at_close (Verdicts true) origin close events).outcome ≡ Complete
+      → IsLastText (course_at_close (Verdicts true) origin close events).outcome
+      (course_at_close (Verdicts true) origin close events).closing last
+      → (outcome_at_feed close ≡ Complete) × (last ≡ [])
+  last_none origin (Ok (Change event)) events last complete is = (refl, is)
+  last_none origin (Ok Ask) events last complete is = (refl, is)
+  last_none origin (Ok Proofs) events last complete is = (refl, is)
+  last_none origin (Ok End) events last complete is = (refl, is)
+  last_none origin (Err stop) events last complete is =
+      let P : RunEnd → Type 0 = λ outcome. IsLastText outcome None last in
+      (complete, subst P complete is)
+
+  -- and nothing more to answer
+  none_asked : (origin : Origin) (close : Result Entry FeedStop) (events : List Event)
+      → (course_at_close (Verdicts true) origin close events).asks ≡ []
+  none_asked origin (Ok (Change event)) events = refl
+  none_asked origin (Ok Ask) events = refl
+  none_asked origin (Ok Proofs) events = refl
+  none_asked origin (Ok End) events = refl
+  none_asked origin (Err stop) events = refl
+
   -- by what comes of the sheet
   by_gives : (gives : Result Sheet SheetStop) (rest : Contents)
       → sheet_reading_of contents None ≡ record { gives = gives; rest = rest }
-      → WritesAccepted (course_with_feed gives rest)
-  by_gives (Ok sheet) rest is answers made complete same =
-      let asks = asks_in sheet (feed_of sheet false rest []).entries [] in
+      → WritesAccepted (course_after (Verdicts true) gives rest)
+  by_gives (Ok sheet) rest is =
+      let origin = first_origin sheet in
+      let feed = feed_of sheet false rest [] in
+      let asks = asked sheet feed.entries in
+      let Writes : Course → Type 0 = λ c. WritesAccepted c in
+      subst Writes (sym (course-of_feed (Verdicts true) origin [] rest refl))
+      (λ answers last made complete is_last same.
+      let ended = last_none origin feed.close (events_after [] feed.entries) last complete is_last
+      in
+      let whole : text ≡ answers =
+      same ∙ ap (λ more. answers ++ more) ended.1 ∙ append-nil answers in
       let All : List ℕ → Type 0 = λ these. (told : AreAnswers (Verdicts true) asks these)
       → IsAccepted (rows_of_asks asks) (unsettled_told asks these told) in
-      subst All same (with_text sheet rest is complete) made
-  by_gives (Err stop) rest is answers made complete same =
+      let Of : List Played → Type 0 = λ plays. (told : AreAnswers (Verdicts true) plays answers)
+      → IsAccepted (rows_of_asks plays) (unsettled_told plays answers told) in
+      let same_asks : asks ++ (course_at_close (Verdicts true) origin feed.close
+      (events_after [] feed.entries)).asks ≡ asks =
+      ap (λ more. asks ++ more) (none_asked origin feed.close (events_after [] feed.entries))
+      ∙ append-nil asks in
+      subst Of (sym same_asks) (subst All whole (with_text sheet rest is ended.0)) made)
+  by_gives (Err stop) rest is = λ answers last made complete is_last same.
       absurd (sheet-refused (lines_of input) start stop
       (ap (λ (r : SheetReading). r.gives) is) complete)
 
@@ -197,13 +244,10 @@ texts_accepted input text done told inside =
     let contents = contents_of input in
     let reading = sheet_reading_of contents None in
     let course = course_of (Verdicts true) contents in
-    let complete : course.outcome ≡ Complete = done-complete course.outcome done in
-    let same : text ≡ told.0 =
-    told.2 ∙ ap (λ (outcome : RunEnd). told.0 ++ last_row outcome) complete ∙ append-nil told.0 in
-    let Writes : Course → Type 0 = λ c. WritesAccepted input text inside c in (
-      Accepted (rows_of_asks course.asks) (unsettled_told course.asks told.0 told.1),
-      subst Writes (sym (course-of_feed (Verdicts true) contents tt))
-          (by_gives input text inside reading.gives reading.rest refl) told.0 told.1 complete same,
+    let complete : course.outcome ≡ Complete = done-complete course.outcome done in (
+      Accepted (rows_of_asks course.asks) (unsettled_told course.asks told.0 told.2),
+      by_gives input text inside reading.gives reading.rest refl told.0 told.1 told.2 complete
+          told.3 told.4,
       refl,
       refl,
     )

@@ -1,7 +1,7 @@
 -- The text of one answer is the bytes of lines that are read as one whole part of a report.
 use Rattle.std.proofs.Common.{◌≡◌, ℕ, ◌+◌, ◌≤◌, Bool, true, nat_le, nat_lt, List, []}
 use Rattle.std.proofs.Common.{◌∷◌, ◌++◌, map, length, refl, sym, ap, ap₂, subst, ◌∙◌, append_assoc}
-use Rattle.std.proofs.Common.{arith}
+use Rattle.std.proofs.Common.{arith, None}
 use Rattle.std.specs.Prelude.{codes, decimal}
 use Rattle.std.specs.List.{list_all, flat_map, range_with_len}
 use Rattle.std.proofs.lemmas.Bool.{and_parts, and_from, ltb-true, lt-ltb}
@@ -14,9 +14,10 @@ use Rattle.cert_text.specs.declared.proof_line.ProofLine.{ProofLine}
 use Rattle.cert_text.specs.ExampleLines.{text_of_proof_lines}
 use Rattle.cert_text.specs.Lines.{text_of_proof_line}
 use Rattle.cert_text.specs.Rows.{text_of_row}
-use Rattle.cert_check.specs.declared.token.Token.{Token}
-use Rattle.cert_check.specs.declared.token.Token.TheVariants.{Proof}
-use Rattle.cert_check.specs.ExpectedItems.{Basis, Expected, name_of_club, text_of_word}
+use Rattle.line_tokens.specs.declared.token.Token.{Token}
+use Rattle.line_tokens.specs.declared.token.Token.TheVariants.{Proof}
+use Rattle.cert_check.specs.ExpectedItems.{Basis, Expected, text_of_word}
+use Rattle.line_tokens.specs.LineRanges.{name_of_club}
 use Rattle.cert_check.specs.Machine.{basis_of}
 use Rattle.cert_check.specs.inside.Answers.{ShownItem, AreShown, item_tokens, row_due}
 use Rattle.cert_check.specs.inside.Answers.{unsettled_items}
@@ -27,15 +28,15 @@ use Rattle.answer_rows.specs.declared.word.Word.TheVariants.{Clinched, Lost, Pos
 use Rattle.answer_rows.specs.Items.{AnswerRow, answer_rows, answer_rows_of}
 use Rattle.answer_rows.specs.Parts.{IsMadeOf}
 use Rattle.answer_rows.specs.Rows.{word_text}
-use Rattle.futmax_main.specs.Answers.{IsItemText}
+use Rattle.pool_save.specs.SavedAnswers.{IsItemText}
 use Rattle.report_laws.specs.inside.AcceptedAnswers.{row_word, unsettled_one}
 use Rattle.report_laws.specs.inside.AcceptedTexts.{unsettled_made}
 use Rattle.report_laws.proofs.BriefLemmas.{is_brief, item-brief}
 use Rattle.report_laws.proofs.ItemLemmas.{due_of_row, word_shown}
-use Rattle.report_laws.proofs.KeptLemmas.{kept_line, line-kept, texts-kept}
-use Rattle.report_laws.proofs.KeptTreeLemmas.{item-kept}
+use Rattle.cert_check.proofs.KeptLemmas.{kept_line, line-kept, texts-kept}
+use Rattle.report_laws.proofs.KeptItemLemmas.{item-kept}
 use Rattle.report_laws.proofs.PutLemmas.{ArePut, proof-put, put-append, verdict-put}
-use Rattle.report_laws.proofs.WithinLemmas.{names_fit}
+use Rattle.cert_check.proofs.WithinLemmas.{names_fit}
 
 -- ---- the lines of one item
 
@@ -93,9 +94,9 @@ module _ (sheet : Sheet) (season : Results) (epoch : ℕ) (league : IsLeague she
   abbrev season_basis : Basis
   season_basis = basis_of sheet season epoch
 
-  -- one item, and the others behind it
+  -- one item, and the others after it
   item-read : (about : AnswerRow) (rows : List AnswerRow) (part rest : List ℕ) (unsettled : ℕ)
-      → nat_lt about.line 24 ≡ true → (told : IsItemText true sheet season about part)
+      → nat_lt about.line 24 ≡ true → (told : IsItemText true sheet season None about part)
       → ItemsRead season_basis rows unsettled rest
       → ItemsRead season_basis (about ∷ rows) (unsettled_one told.0 + unsettled) (part ++ rest)
   item-read about rows part rest unsettled known told behind =
@@ -116,7 +117,7 @@ module _ (sheet : Sheet) (season : Results) (epoch : ℕ) (league : IsLeague she
         dues = ap (λ (dues : List Expected). row_due item ∷ dues) behind.dues;
         shown = (word_shown season_basis about.line about.club told.0 lines kept, behind.shown);
         bytes = ap₂ (λ (front back : List ℕ). front ++ back)
-            (told.3
+            (told.4
             ∙ ap₂ (λ (said shown : List ℕ).
             text_of_row (codes "verdict" ∷ decimal about.line
             ∷ name_of_club sheet about.club ∷ said ∷ []) ++ shown)
@@ -134,7 +135,7 @@ module _ (sheet : Sheet) (season : Results) (epoch : ℕ) (league : IsLeague she
   -- the items of these rows
   items-read : (rows : List AnswerRow) (text : List ℕ)
       → list_all (λ (about : AnswerRow). nat_lt about.line 24) rows ≡ true
-      → (made : IsMadeOf (IsItemText true sheet season) rows text)
+      → (made : IsMadeOf (IsItemText true sheet season None) rows text)
       → ItemsRead season_basis rows (unsettled_made sheet season rows text made) text
   items-read [] text all made = record {
     items = [];
@@ -178,7 +179,7 @@ rows-known clubs (number ∷ lines) few all =
 -- the items of an answer
 pub answer_items : (sheet : Sheet) (season : Results) (epoch : ℕ) (text : List ℕ)
     → IsLeague sheet season → are_results season ≡ true
-    → (made : IsMadeOf (IsItemText true sheet season) (answer_rows sheet) text)
+    → (made : IsMadeOf (IsItemText true sheet season None) (answer_rows sheet) text)
     → ItemsRead (basis_of sheet season epoch) (answer_rows sheet)
     (unsettled_made sheet season (answer_rows sheet) text made) text
 answer_items sheet season epoch text league results made =

@@ -2,7 +2,7 @@
 use Rattle.std.proofs.Common.{sym, ap, subst, List, map, Some}
 use Rattle.std.specs.Prelude.{length}
 use Rattle.league_core.specs.game.Seasons.{unplayed_season}
-use Rattle.cert_check.specs.declared.token.Token.{Token}
+use Rattle.line_tokens.specs.declared.token.Token.{Token}
 use Rattle.cert_check.specs.Outcomes.{numbered}
 use Rattle.cert_check.proofs.WrittenLemmas.{written_back}
 use Rattle.report_laws.specs.inside.AcceptedReports.{AreAnswersWritten}

@@ -1,6 +1,6 @@
 -- The text of all answers of a feed is the bytes of parts that are read one after the other.
 use Rattle.std.proofs.Common.{◌≡◌, ℕ, ◌+◌, ◌*◌, ◌≤◌, true, List, [], ◌∷◌, ◌++◌, length, refl, sym}
-use Rattle.std.proofs.Common.{ap, ap₂, subst, ◌∙◌, arith}
+use Rattle.std.proofs.Common.{ap, ap₂, subst, ◌∙◌, arith, None}
 use Rattle.std.specs.List.{flat_map}
 use Rattle.std.proofs.lemmas.List.{length-append}
 use Rattle.std.proofs.lemmas.List.Elements.{All-take}
@@ -18,7 +18,7 @@ use Rattle.result_log.specs.declared.entry.Entry.TheVariants.{Change, Ask, Proof
 use Rattle.result_log.specs.Feeds.{season_with}
 use Rattle.result_log.specs.inside.FeedParts.{events_after}
 use Rattle.result_log.proofs.FeedLemmas.{season_after-entry}
-use Rattle.cert_check.specs.declared.token.Token.{Token}
+use Rattle.line_tokens.specs.declared.token.Token.{Token}
 use Rattle.cert_check.specs.Machine.{basis_of, whole_at}
 use Rattle.cert_check.specs.inside.Answers.{answer_tokens}
 use Rattle.cert_check.specs.inside.WrittenReports.{written}
@@ -28,6 +28,7 @@ use Rattle.answer_rows.specs.Rows.{ask_row}
 use Rattle.command_words.specs.declared.command.Mode.TheVariants.{Verdicts}
 use Rattle.futmax_main.specs.Answers.{IsVerdictsText}
 use Rattle.futmax_main.specs.Texts.{AreAnswers}
+use Rattle.futmax_main.specs.Courses.{first_origin}
 use Rattle.futmax_main.specs.inside.FeedCourses.{asks_in}
 use Rattle.report_laws.specs.inside.AcceptedReports.{rows_written}
 use Rattle.report_laws.specs.inside.AcceptedTexts.{rows_of_asks, unsettled_made, unsettled_told}
@@ -48,7 +49,7 @@ record AnswerRead (sheet : Sheet) (season : Results) (epoch : ℕ) (text : List 
 
 answer-read : (sheet : Sheet) (season : Results) (epoch : ℕ) (text : List ℕ)
     → IsLeague sheet season → are_results season ≡ true → epoch ≤ most_events
-    → (told : IsVerdictsText true sheet season epoch text)
+    → (told : IsVerdictsText true sheet season epoch None text)
     → AnswerRead sheet season epoch text
     (unsettled_made sheet season (answer_rows sheet) told.0 told.2)
 answer-read sheet season epoch text league results few told =
@@ -115,9 +116,10 @@ event-read sheet entries events event text unsettled read =
 pub text-read : (sheet : Sheet) (entries : List Entry) (events : List Event) (text : List ℕ)
     → IsWithinLimits sheet → AreEventsOf sheet (events_after events entries)
     → epoch_of (events_after events entries) ≤ most_events
-    → (made : AreAnswers (Verdicts true) (asks_in sheet entries events) text)
+    → (made : AreAnswers (Verdicts true) (asks_in (Verdicts true) (first_origin sheet) entries
+    events) text)
     → TextRead sheet entries (season_after sheet events) (epoch_of events) text
-    (unsettled_told (asks_in sheet entries events) text made)
+    (unsettled_told (asks_in (Verdicts true) (first_origin sheet) entries events) text made)
 text-read sheet [] events text limits are few made = record {
   told = [];
   parts = (refl, refl);
@@ -126,7 +128,8 @@ text-read sheet [] events text limits are few made = record {
 }
 text-read sheet (Change event ∷ entries) events text limits are few made =
     event-read sheet entries events event text
-    (unsettled_told (asks_in sheet entries (events ++ event ∷ [])) text made)
+    (unsettled_told (asks_in (Verdicts true) (first_origin sheet) entries (events ++ event ∷ []))
+    text made)
     (text-read sheet entries (events ++ event ∷ []) text limits are few made)
 text-read sheet (Ask ∷ entries) events text limits are few made =
     let before = events-before sheet entries events are in
@@ -142,7 +145,7 @@ text-read sheet (Ask ∷ entries) events text limits are few made =
         here.part,
         unsettled_made sheet season (answer_rows sheet) made.3.0 made.3.2,
         behind.told,
-        unsettled_told (asks_in sheet entries events) made.1 made.4,
+        unsettled_told (asks_in (Verdicts true) (first_origin sheet) entries events) made.1 made.4,
         here.whole,
         refl,
         refl,
@@ -173,7 +176,7 @@ text-read sheet (End ∷ entries) events text limits are few made =
 -- they have a row for each line and each club at each ask
 pub rows-same : (sheet : Sheet) (entries : List Entry) (events : List Event)
     → rows_written (length sheet.lines * length sheet.clubs) entries
-    ≡ rows_of_asks (asks_in sheet entries events)
+    ≡ rows_of_asks (asks_in (Verdicts true) (first_origin sheet) entries events)
 rows-same sheet [] events = refl
 rows-same sheet (Change event ∷ entries) events = rows-same sheet entries (events ++ event ∷ [])
 rows-same sheet (Ask ∷ entries) events =

@@ -12,7 +12,7 @@ use Rattle.league_core.specs.game.Results.{Results}
 use Rattle.league_core.specs.game.Questions.{full_question}
 use Rattle.cert_text.specs.declared.proof_line.ProofLine.{ProofLine}
 use Rattle.cert_text.specs.TreeLines.{marked_lines}
-use Rattle.cert_check.specs.declared.token.Token.{Token}
+use Rattle.line_tokens.specs.declared.token.Token.{Token}
 use Rattle.cert_check.specs.ExpectedItems.{Basis, Expected, verdict_row}
 use Rattle.cert_check.specs.Machine.{ending_of, whole_at, part_of_ask, rows_on_line}
 use Rattle.cert_check.specs.Machine.{basis_of}

@@ -169,3 +169,4 @@ done-complete (Refused fault) is = absurd (by_cause fault.cause is)
     by_cause (cause.Feed fault) is = cc
     by_cause cause.LineTooLong is = cc
     by_cause cause.InputTooLong is = cc
+    by_cause cause.BadSave is = cc

@@ -1,15 +1,14 @@
 -- Answers item by item, then reports answer by answer, and the bytes of reports. For whole sessions
--- after these: lines as a type holds them, that the lines of an answer are short and read as they
--- were written, what an input and its feed give before the record `proofs`, and all of it together.
+-- after these: items as a type holds their lines, that the lines of an answer are short and read as
+-- they were written, what an input and its feed give before the record `proofs`, and all of it
+-- together.
 pub mod ItemLemmas
 pub mod ReportLemmas
 pub mod ByteLemmas
-pub mod KeptLemmas
-pub mod KeptTreeLemmas
+pub mod KeptItemLemmas
 pub mod BriefLemmas
 pub mod SizeLemmas
 pub mod RowSizeLemmas
-pub mod WithinLemmas
 pub mod LineReadLemmas
 pub mod PutLemmas
 pub mod AnswerTextLemmas

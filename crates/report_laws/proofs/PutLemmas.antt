@@ -17,8 +17,8 @@ use Rattle.cert_text.specs.Lines.{text_of_proof_line}
 use Rattle.cert_text.specs.Ranges.{is_in_range}
 use Rattle.cert_text.specs.inside.Widths.{is_line_kept}
 use Rattle.cert_text.proofs.PrintedLemmas.{line_printed}
-use Rattle.cert_check.specs.declared.token.Token.{Token}
-use Rattle.cert_check.specs.declared.token.Token.TheVariants.{Row, Proof}
+use Rattle.line_tokens.specs.declared.token.Token.{Token}
+use Rattle.line_tokens.specs.declared.token.Token.TheVariants.{Row, Proof}
 use Rattle.cert_check.specs.declared.expected.RowWord.{RowWord}
 use Rattle.cert_check.specs.declared.expected.RowWord.TheVariants.{Clinched, Lost, Possible}
 use Rattle.cert_check.specs.declared.expected.RowWord.TheVariants.{Unsettled}
@@ -32,7 +32,7 @@ use Rattle.report_laws.proofs.BriefLemmas.{is_brief, may_show}
 use Rattle.report_laws.proofs.LineReadLemmas.{contents-text, ending-with}
 use Rattle.report_laws.proofs.RowSizeLemmas.{ask_row-size, verdict_row-size}
 use Rattle.report_laws.proofs.SizeLemmas.{line-size}
-use Rattle.report_laws.proofs.WithinLemmas.{IsRowName, no_feed, number_bytes, printed_bytes}
+use Rattle.cert_check.proofs.WithinLemmas.{IsRowName, no_feed, number_bytes, printed_bytes}
 
 -- a line that an answer may have: bytes without LF, and an LF, no more than a line has
 pub record IsLinePut (told : Token) : Type 0 where

@@ -8,8 +8,8 @@ use Rattle.league_core.specs.game.Results.{Results}
 use Rattle.result_log.specs.Feeds.{season_with, count_with}
 use Rattle.result_log.specs.declared.entry.Entry.{Entry}
 use Rattle.result_log.specs.declared.entry.Entry.TheVariants.{Change, Ask, Proofs, End}
-use Rattle.cert_check.specs.declared.token.Token.{Token}
-use Rattle.cert_check.specs.Tokens.{counted_lines}
+use Rattle.line_tokens.specs.declared.token.Token.{Token}
+use Rattle.line_tokens.specs.Tokens.{counted_lines}
 use Rattle.cert_check.specs.LineLists.{tokens_of}
 use Rattle.cert_check.specs.Machine.{Ending, ending_of, part_of_ask, whole_at}
 use Rattle.cert_check.specs.Machine.{basis_of}

@@ -15,6 +15,7 @@ ghost use Rattle.pool_lock.specs.inside.Lends.{IsEyeAfter};
 use crate::cases::{Case, event_of, meet};
 use crate::end::{Round, seen};
 use crate::watched::watched;
+use answer_rows::questions;
 use branch_pool::{Answer, Gave, Pool};
 use epoch_cancel::{EpochWord, Eye, Front, Owner};
 use league_core::{Event, OutOfMemory, Question, Season, Sheet};
@@ -26,7 +27,6 @@ use std::sync::Wait;
 use std::sync::ledger::Blank;
 use std::test::Fail;
 use std::thread::Threads;
-use verdict_run::questions;
 
 const TWO_CLUBS: &[u8] = b"league,Tiny,1\nclub,A,1\nclub,B,2\nmatch,A,B\nline,1\nseason\n";
 

@@ -27,7 +27,8 @@ use Rattle.tree_arena.proofs.ShapeLemmas.{length-shapes, shapes-set_lent}
 use Rattle.tree_arena.proofs.ShapeLemmas.{shapes-longer, tree_below-mapped}
 use Rattle.tree_arena.proofs.WeightLemmas.{whole-set_leaf, within-set_leaf, whole_split}
 use Rattle.tree_arena.proofs.WeightLemmas.{within_split, counted_whole, counts_nodes, counts_lent}
-use Rattle.tree_arena.proofs.WeightLemmas.{counts_number, counts_open, open_count, has_open-count}
+use Rattle.tree_arena.proofs.WeightLemmas.{counts_number, counts_open, has_open-count}
+use Rattle.tree_arena.specs.OpenCounts.{open_count}
 use Rattle.tree_arena.proofs.WeightLemmas.{total-node_mark}
 use Rattle.tree_arena.proofs.LinkLemmas.{linked-set_leaf, linked_split}
 

@@ -20,8 +20,8 @@ use Rattle.league_core.specs.declared.zone.Test.{Test}
 use Rattle.league_core.specs.search.Trees.{Tree, open_leaf, lent_leaf, refuted_leaf, branch}
 use Rattle.league_core.specs.search.Trees.{preorder, node_count}
 use Rattle.league_core.specs.inside.Lending.{lent_count}
-use Rattle.league_core.specs.inside.TreeLists.{with_node, trees_of, only_tree, tree_of}
-use Rattle.league_core.specs.inside.TreeLists.{tree_or_leaf}
+use Rattle.league_core.specs.search.TreeLists.{with_node, trees_of, only_tree, tree_of}
+use Rattle.league_core.specs.search.TreeLists.{tree_or_leaf}
 use Rattle.league_core.proofs.TreeListLemmas.{preorder-tree_of}
 use Rattle.tree_arena.specs.declared.node.Kind.{Kind}
 use Rattle.tree_arena.specs.declared.node.Kind.TheVariants.{Open, Lent, Refuted, Split}

@@ -34,7 +34,7 @@ use Rattle.tree_arena.proofs.MarkLemmas.{one_if, one_if-same, one_if-other, tota
 use Rattle.tree_arena.proofs.MarkLemmas.{times_in-at, times_in-push, times_in-reverse, stands_at}
 use Rattle.tree_arena.proofs.MarkLemmas.{sum_by-reverse, listed_alike}
 use Rattle.tree_arena.proofs.ShapeLemmas.{length-shapes}
-use Rattle.tree_arena.proofs.WeightLemmas.{open_count}
+use Rattle.tree_arena.specs.OpenCounts.{open_count}
 use Rattle.tree_arena.proofs.ArenaLemmas.{any_node, marked_at, length-marks, arena-number}
 use Rattle.tree_arena.proofs.ArenaLemmas.{arena-opens, arena-lent, lent_step, lent_once_step}
 use Rattle.tree_arena.proofs.ArenaLemmas.{lent_tree}

@@ -1,6 +1,7 @@
 -- The arena: trees of one node, marks and lists of nodes, trees, weights, links, what each call
 -- does, lent leaves, the order of leaves and which one is lent, rooms, the way that is kept, lists
--- of nodes, how an arena is made, with its leaves in order; then zones.
+-- of nodes, how an arena is made, with its leaves in order; then zones, and
+-- leaves that are good nodes.
 pub mod LeafLemmas
 pub mod MarkLemmas
 pub mod ShapeLemmas
@@ -20,3 +21,4 @@ pub mod BuildLemmas
 pub mod OrderLemmas
 pub mod ListLemmas
 pub mod ZoneLemmas
+pub mod GoodNodeLemmas

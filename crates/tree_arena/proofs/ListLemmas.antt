@@ -6,7 +6,7 @@ use Rattle.std.specs.Option.{is_some}
 use Rattle.league_core.specs.declared.tree.TreeNode.{TreeNode}
 use Rattle.league_core.specs.declared.tree.TreeNode.TheVariants.{Split, Open, Lent, Refuted}
 use Rattle.league_core.specs.search.Trees.{Tree, open_leaf, lent_leaf, refuted_leaf, branch}
-use Rattle.league_core.specs.inside.TreeLists.{with_node, trees_of, only_tree, tree_of}
+use Rattle.league_core.specs.search.TreeLists.{with_node, trees_of, only_tree, tree_of}
 use Rattle.tree_arena.specs.inside.Arena.{is_split_node}
 
 -- what stands from here on is so many trees

@@ -18,6 +18,7 @@ use Rattle.tree_arena.proofs.MarkLemmas.{total-append, total-set}
 use Rattle.tree_arena.proofs.ShapeLemmas.{length-shapes}
 use Rattle.league_core.proofs.plain.Numbers.{some_of_sum}
 use Rattle.league_core.proofs.plain.Slots.{at_end}
+use Rattle.tree_arena.specs.OpenCounts.{open_count}
 
 pub length-weights : (owns : List ℕ) (nodes : List Node) → length owns ≡ length nodes
     → length (weights owns nodes) ≡ length nodes
@@ -309,13 +310,6 @@ counts_number number (Split test fresh half) trees within =
     let first = get_or-counted (times_lent number) trees half (omega arith) in
     let second = get_or-counted (times_lent number) trees (suc half) within in
     omega arith
-
--- how many leaves of a tree are open
-abbrev pub open_count : Tree → ℕ
-open_count open_leaf = 1
-open_count (lent_leaf number) = 0
-open_count (refuted_leaf reason fresh) = 0
-open_count (branch test fresh yes_half no_half) = open_count yes_half + open_count no_half
 
 pub has_open-count : (tree : Tree) → has_open tree ≡ nat_lt 0 (open_count tree)
 has_open-count open_leaf = refl

@@ -11,7 +11,7 @@ use Rattle.league_core.specs.declared.tree.TreeNode.{TreeNode}
 use Rattle.league_core.specs.declared.tree.TreeNode.TheVariants.{Split, Open, Lent, Refuted}
 use Rattle.league_core.specs.search.Trees.{Tree, open_leaf, lent_leaf, refuted_leaf, branch}
 use Rattle.league_core.specs.search.Trees.{zones_from}
-use Rattle.league_core.specs.inside.TreeLists.{with_node, trees_of}
+use Rattle.league_core.specs.search.TreeLists.{with_node, trees_of}
 use Rattle.tree_arena.specs.declared.zones.Step.{Step}
 use Rattle.tree_arena.specs.inside.Steps.{literal_of, zone_of_part, zones_to_come, AreInDepth}
 use Rattle.tree_arena.specs.inside.Steps.{steps_after, zones_at, ListsZones}

@@ -1,2 +1,3 @@
--- All words of this crate stand in inside/: no promise of the program rests on them.
+-- How many leaves are open is a word that promises rest on; all others stand in inside/.
+pub mod OpenCounts
 pub mod inside

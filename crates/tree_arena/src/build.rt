@@ -3,7 +3,7 @@
 ghost use Rattle.std.specs.Prelude.{◌≡◌, ◌<◌, ◌≤◌, ◌+◌, ◌++◌, ◌∷◌, [], ℕ, List, length, reverse};
 ghost use Rattle.std.specs.Prelude.{IfOk, IsTrue};
 ghost use Rattle.std.specs.Option.{is_some};
-ghost use Rattle.league_core.specs.inside.TreeLists.{tree_of};
+ghost use Rattle.league_core.specs.search.TreeLists.{tree_of};
 ghost use Rattle.tree_arena.specs.inside.Arena.{kind_over, halves_under, is_split_node};
 ghost use Rattle.tree_arena.specs.inside.Calls.{most_nodes};
 ghost use Rattle.tree_arena.specs.inside.Builds.{Starts, TakesNode, IsBuilt};

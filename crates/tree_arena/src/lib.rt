@@ -8,6 +8,7 @@
 
 mod arena;
 mod build;
+mod example;
 mod last_path;
 mod list;
 mod node;
@@ -16,5 +17,6 @@ mod stop;
 mod tree;
 mod zones;
 
+pub use example::Example;
 pub use stop::TreeStop;
 pub use tree::{MOST_NODES, Tree};

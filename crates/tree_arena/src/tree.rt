@@ -4,7 +4,7 @@
 ghost use Rattle.std.specs.Prelude.{◌≡◌, ◌≤◌, ◌+◌, ◌↔◌, true, length, IsTrue, IfOk};
 ghost use Rattle.std.specs.Prelude.{IfErr, OnOk, OnErr};
 ghost use Rattle.std.specs.Option.{is_some};
-ghost use Rattle.league_core.specs.inside.TreeLists.{tree_of};
+ghost use Rattle.league_core.specs.search.TreeLists.{tree_of};
 ghost use Rattle.tree_arena.specs.inside.Stops.{WhyNoTree};
 ghost use Rattle.league_core.specs.search.Trees.{open_leaf, refuted_leaf, branch, node_count};
 ghost use Rattle.league_core.specs.search.Trees.{has_open, is_refuted, preorder, zones_of};
@@ -43,7 +43,7 @@ pub struct Tree {
 
 impl Model for Tree {
     ghost use Rattle.league_core.specs.search.Trees as trees;
-    ghost use Rattle.league_core.specs.inside.TreeLists.{coded_tree};
+    ghost use Rattle.league_core.specs.search.TreeLists.{coded_tree};
 
     ghost Value = { trees.Tree };
 

@@ -3,7 +3,7 @@
 ghost use Rattle.std.specs.Prelude.{◌≡◌, ◌≤◌, ◌++◌, length, reverse, IsTrue, IfOk};
 ghost use Rattle.std.specs.Option.{is_some};
 ghost use Rattle.league_core.specs.search.Trees.{zones_of};
-ghost use Rattle.league_core.specs.inside.TreeLists.{tree_of, tree_or_leaf};
+ghost use Rattle.league_core.specs.search.TreeLists.{tree_of, tree_or_leaf};
 ghost use Rattle.tree_arena.specs.inside.Calls.{literals_of};
 ghost use Rattle.tree_arena.specs.inside.Steps.{zone_of_part, steps_after, zones_at};
 

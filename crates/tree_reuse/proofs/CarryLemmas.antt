@@ -17,13 +17,13 @@ use Rattle.league_core.specs.game.Results.{Results}
 use Rattle.league_core.specs.search.Zones.{is_test_of}
 use Rattle.league_core.specs.search.Trees.{Tree, open_leaf, lent_leaf, refuted_leaf, branch}
 use Rattle.league_core.specs.search.Trees.{preorder}
-use Rattle.league_core.specs.inside.TreeLists.{with_node, trees_of, trees_of-preorder}
+use Rattle.league_core.specs.search.TreeLists.{with_node, trees_of, trees_of-preorder}
 use Rattle.score_box.specs.inside.ZoneBoxViews.{ZoneBoxView}
 use Rattle.tree_reuse.specs.declared.halves.Halves.{Halves}
 use Rattle.tree_reuse.specs.declared.halves.Halves.TheVariants.{Both, YesAlone, NoAlone}
 use Rattle.tree_reuse.specs.declared.carry.Part.{Part}
 use Rattle.tree_reuse.specs.declared.carry.Part.TheVariants.{Dropped, Kept}
-use Rattle.tree_reuse.specs.inside.Retargets.{halves_in, retargeted_from}
+use Rattle.tree_reuse.specs.Retargets.{halves_in, retargeted_from}
 use Rattle.tree_reuse.specs.inside.Carrying.{path_after, nodes_to_come}
 use Rattle.tree_arena.specs.inside.Steps.{literal_of, zone_of_part}
 use Rattle.tree_reuse.specs.inside.Carrying.{halves_kept, parts_after, split_kept, nodes_kept}

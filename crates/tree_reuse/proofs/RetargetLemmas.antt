@@ -23,7 +23,7 @@ use Rattle.league_core.specs.search.Trees.{NodesMeet, preorder, node_count, new_
 use Rattle.league_core.specs.inside.Lending.{lent_count, times_lent}
 use Rattle.league_core.specs.search.Splits.{IsProperNode, is_proper, have_both_finish}
 use Rattle.league_core.proofs.HalfLemmas.{half_has_finish, root_has_finish, no_rival, after_in_half}
-use Rattle.league_core.specs.inside.TreeLists.{tree_of, tree_of-preorder}
+use Rattle.league_core.specs.search.TreeLists.{tree_of, tree_of-preorder}
 use Rattle.league_core.proofs.TreeLemmas.{length-preorder}
 use Rattle.league_core.proofs.TreeListLemmas.{preorder_injective}
 use Rattle.league_core.proofs.LendingLemmas.{times_lent-le}
@@ -32,10 +32,10 @@ use Rattle.tree_arena.proofs.LeafLemmas.{node_count-some}
 use Rattle.tree_reuse.specs.declared.halves.Halves.{Halves}
 use Rattle.tree_reuse.specs.declared.halves.Halves.TheVariants.{Both, YesAlone, NoAlone}
 use Rattle.tree_arena.specs.inside.Calls.{IsNodeOf, AreTestsOf}
-use Rattle.tree_reuse.specs.inside.Retargets.{halves_by, halves_in, leaf_kept, retargeted_from}
-use Rattle.tree_reuse.specs.inside.Retargets.{most_kept, within_limit, retargeted}
+use Rattle.tree_reuse.specs.Retargets.{halves_by, halves_in, leaf_kept, retargeted_from}
+use Rattle.tree_reuse.specs.Retargets.{most_kept, within_limit, retargeted}
 use Rattle.tree_reuse.specs.inside.RetargetLaws.{IsKeptNode}
-use Rattle.tree_reuse.specs.inside.Asked.{may_ask, IsAskedNode, IsAskedTree}
+use Rattle.tree_reuse.specs.Asked.{may_ask, IsAskedNode, IsAskedTree}
 
 -- what holds of the tree in each case of the halves that stay holds of the one that is chosen
 in_each : (P : Tree → Type 0) (halves : Halves) (both yes_half no_half : Tree)

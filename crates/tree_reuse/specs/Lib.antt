@@ -1,2 +1,4 @@
--- All words of this crate stand in inside/: no promise of the program rests on them.
+-- What is left of a tree after a change, and which trees may be handed in.
+pub mod Retargets
+pub mod Asked
 pub mod inside

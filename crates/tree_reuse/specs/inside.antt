@@ -1,6 +1,5 @@
--- What is left of a tree after a change with its laws, and which trees may be handed in; then how
--- what is left of a tree is listed.
-pub mod Retargets
+-- The laws of both, and how what is left of a tree is listed: no promise of the program rests on
+-- these words.
 pub mod RetargetLaws
-pub mod Asked
+pub mod AskedLaws
 pub mod Carrying

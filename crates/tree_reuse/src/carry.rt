@@ -7,7 +7,7 @@ ghost use Rattle.league_core.specs.search.Options.{has_finish};
 ghost use Rattle.league_core.specs.search.Reasons.{has_reason};
 ghost use Rattle.league_core.specs.search.Trees.{preorder};
 ghost use Rattle.tree_reuse.specs.declared.carry.Part.TheVariants.{Kept};
-ghost use Rattle.tree_reuse.specs.inside.Retargets.{halves_in, leaf_kept, retargeted_from};
+ghost use Rattle.tree_reuse.specs.Retargets.{halves_in, leaf_kept, retargeted_from};
 ghost use Rattle.tree_reuse.specs.inside.Carrying.{path_after, halves_kept};
 ghost use Rattle.tree_arena.specs.inside.Steps.{literal_of, zone_of_part};
 ghost use Rattle.tree_reuse.specs.inside.Carrying.{parts_after, parts_dropped, parts_next};

@@ -2,17 +2,17 @@
 //! with laws as contract.
 //!
 //! The statements on what is carried over are in `specs/inside/RetargetLaws.antt`, and on trees
-//! that anyone made in `specs/inside/Asked.antt`.
+//! that anyone made in `specs/Asked.antt`.
 
 ghost use Rattle.std.specs.Prelude.{◌≡◌};
 ghost use Rattle.tree_arena.specs.inside.Calls.{most_nodes};
-ghost use Rattle.tree_reuse.specs.inside.Retargets.{most_kept};
+ghost use Rattle.tree_reuse.specs.Retargets.{most_kept};
 ghost use Rattle.tree_reuse.specs.inside.RetargetLaws.{RetargetedTreesLendNothing};
 ghost use Rattle.tree_reuse.specs.inside.RetargetLaws.{RetargetedTreesHaveNothingNew};
 ghost use Rattle.tree_reuse.specs.inside.RetargetLaws.{RetargetedTreesAreNoGreater};
 ghost use Rattle.tree_reuse.specs.inside.RetargetLaws.{RetargetedTreesAreGood};
 ghost use Rattle.tree_reuse.specs.inside.RetargetLaws.{ProperTreesAreOfTheSheet};
-ghost use Rattle.tree_reuse.specs.inside.Asked.{AskedTreesAreGood, ProperTreesAreAsked};
+ghost use Rattle.tree_reuse.specs.inside.AskedLaws.{AskedTreesAreGood, ProperTreesAreAsked};
 
 use crate::halves::MOST_KEPT;
 use tree_arena::MOST_NODES;

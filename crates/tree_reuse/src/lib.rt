@@ -1,7 +1,7 @@
 //! What a change of the season leaves of a tree of zones.
 //!
 //! Trees are those of `tree_arena`, and are seen as the one of league_core's
-//! `specs/search/Trees.antt`. Read `specs/inside/Retargets.antt` first, and
+//! `specs/search/Trees.antt`. Read `specs/Retargets.antt` first, and
 //! `specs/inside/Carrying.antt` for how a tree's list is gone through.
 #![tactic(auto)]
 

@@ -3,7 +3,7 @@
 ghost use Rattle.std.specs.Prelude.{◌≡◌, ◌<◌, [], length, IfOk, OnOk};
 ghost use Rattle.league_core.specs.game.Seasons.{IsLeague};
 ghost use Rattle.tree_arena.specs.inside.Calls.{AreTestsOf};
-ghost use Rattle.tree_reuse.specs.inside.Retargets.{retargeted};
+ghost use Rattle.tree_reuse.specs.Retargets.{retargeted};
 
 use crate::box_moves::root_box;
 use crate::carry::carry;

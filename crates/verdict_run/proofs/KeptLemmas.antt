@@ -13,20 +13,21 @@ use Rattle.league_core.specs.game.Results.{Results}
 use Rattle.league_core.specs.search.Trees.{is_refuted}
 use Rattle.cert_text.specs.declared.proof_line.ProofLine.{ProofLine}
 use Rattle.cert_text.specs.ExampleLines.{example_lines}
-use Rattle.branch_pool.specs.declared.question_state.Example.{Example}
+use Rattle.tree_arena.specs.declared.example.Example.{Example}
 use Rattle.branch_pool.specs.declared.question_state.QuestionState.{QuestionState}
 use Rattle.branch_pool.specs.declared.ticket.Answer.{Answer}
 use Rattle.branch_pool.specs.declared.ticket.Answer.TheVariants as answer
 use Rattle.branch_pool.specs.inside.States.{PoolView}
 use Rattle.branch_pool.specs.inside.Calls.{answer_of, answer_without}
-use Rattle.verdict_run.specs.declared.part.Known.{Known}
-use Rattle.verdict_run.specs.declared.part.Known.TheVariants.{Won, Refuted, Spent}
-use Rattle.verdict_run.specs.declared.part.Part.{Part}
+use Rattle.answer_rows.specs.declared.part.PartKind.{PartKind}
+use Rattle.answer_rows.specs.declared.part.PartKind.TheVariants.{Won, Refuted, Spent}
+use Rattle.answer_rows.specs.declared.part.Part.{Part}
 use Rattle.answer_rows.specs.declared.word.Word.{Word}
 use Rattle.answer_rows.specs.declared.word.Word.TheVariants as word
 use Rattle.answer_rows.specs.declared.word.Verdict.{Verdict}
 use Rattle.answer_rows.specs.Items.{ShowsPart}
-use Rattle.verdict_run.specs.inside.Parts.{IsPart, IsAnswerPart, IsDoneSeat, word_by, proof_by}
+use Rattle.answer_rows.specs.inside.AnswerParts.{IsPart, IsAnswerPart, word_by, proof_by}
+use Rattle.verdict_run.specs.inside.Parts.{IsDoneSeat}
 use Rattle.answer_rows.specs.NewTrees.{is_all_new}
 use Rattle.verdict_run.specs.inside.Kept.{lines_of_refuted, lines_of_spent, TellsExample, IsOfSeat}
 use Rattle.verdict_run.specs.inside.Kept.{IsOfPlace, IsFoundAt, TellsPlace, TellsBoth, TellsOthers}
@@ -81,13 +82,13 @@ won_of_seat sheet season seat example part is lines = record {
 
 -- so does a refuted tree
 pub refuted_of_seat : (sheet : Sheet) (season : Results) (seat : QuestionState) (part : Part)
-    → part.known ≡ Refuted → part.lines.items ≡ lines_of_refuted seat
+    → part.kind ≡ Refuted → part.lines.items ≡ lines_of_refuted seat
     → IsOfSeat sheet season seat part
 refuted_of_seat sheet season seat part known lines =
     record { refuted = λ _. (known, lines); others = λ other. absurd (other known) }
 
 -- what stands for a question that is not refuted
-shows_other : (sheet : Sheet) (season : Results) (question : Question) (known : Known)
+shows_other : (sheet : Sheet) (season : Results) (question : Question) (known : PartKind)
     (lines : List ProofLine) → known ≢ Refuted → IsPart sheet season question known lines
     → (is_spent : Bool) × ShowsPart sheet season question is_spent lines
 shows_other sheet season question Won lines other shows = (false, shows)
@@ -103,7 +104,7 @@ pub spent_of_seat : (sheet : Sheet) (season : Results) (seat : QuestionState) (p
 spent_of_seat sheet season seat part done none not_refuted shown lines = record {
   refuted = λ answered. absurd (false≢true (sym not_refuted ∙ (refuted_is sheet seat answered).1));
   others = λ other.
-      let what = shows_other sheet season seat.question part.known part.lines.items other
+      let what = shows_other sheet season seat.question part.kind part.lines.items other
       shown.shows in
       subst (λ (kept : Option Example). TellsExample sheet season seat kept part.lines.items)
       (sym none) (
@@ -169,21 +170,21 @@ pub parts_of_pool : (pool : PoolView) (place : ℕ) (verdict : Verdict) (inside 
     → ((seat : QuestionState) → slice_get pool.seats (place + 1) ≡ Some seat
     → is_refuted seat.tree ≡ false)
     → IsOfPlace pool place inside → IsOfPlace pool (place + 1) outside
-    → verdict.word ≡ word_by inside.known outside.known
+    → verdict.word ≡ word_by inside.kind outside.kind
     → verdict.proof.items ≡ proof_by verdict.word inside.lines.items outside.lines.items
     → IsOfPool pool place verdict
 parts_of_pool pool place verdict inside outside not_refuted one two is are = record {
   inside = λ seat there answered.
       let found = (one seat there).refuted answered in
       let lost : verdict.word ≡ word.Lost =
-      is ∙ ap (λ (k : Known). word_by k outside.known) found.0 in (
+      is ∙ ap (λ (k : PartKind). word_by k outside.kind) found.0 in (
         lost,
         are ∙ ap (λ (w : Word). proof_by w inside.lines.items outside.lines.items) lost ∙ found.1,
       );
   outside = λ seat there answered.
       absurd (false≢true (sym (not_refuted seat there) ∙ (refuted_is pool.sheet seat answered).1));
   others = subst (λ (w : Word). TellsOthers pool place w verdict.proof.items) (sym is)
-      (others_by inside.known outside.known (λ k. (λ seat there. (one seat there).others k))
+      (others_by inside.kind outside.kind (λ k. (λ seat there. (one seat there).others k))
       (λ k. (λ seat there. (two seat there).others k))
       (are ∙ ap (λ (w : Word). proof_by w inside.lines.items outside.lines.items) is));
 }
@@ -194,7 +195,7 @@ parts_of_pool pool place verdict inside outside not_refuted one two is are = rec
         → TellsBoth pool place verdict.proof.items
     both first second lines = (inside.lines.items, outside.lines.items, lines, first, second)
 
-    others_by : (first second : Known)
+    others_by : (first second : PartKind)
         → (first ≢ Refuted → TellsPlace pool place inside.lines.items)
         → (second ≢ Refuted → TellsPlace pool (place + 1) outside.lines.items)
         → verdict.proof.items

@@ -1,21 +1,13 @@
--- The questions so far, turns of work, the verdicts, the sample's rounds and scores; then splits
--- that are due, questions that are decided, answers and tables of seasons, and events of a sample.
-pub mod AskedLemmas
+-- Turns of work, questions that are settled, what is shown, reported and known of them, the
+-- verdicts; then the sample's rounds and scores, and its events.
 pub mod WorkLemmas
 pub mod TurnLemmas
 pub mod NewTreeLemmas
 pub mod SettledLemmas
 pub mod ShownLemmas
 pub mod ReportedLemmas
-pub mod LineLemmas
 pub mod PartLemmas
-pub mod RowLemmas
 pub mod KeptLemmas
 pub mod VerdictLemmas
 pub mod SampleLemmas
-pub mod DueLemmas
-pub mod BoxPrefixLemmas
-pub mod DecidedLemmas
-pub mod AnswerLemmas
-pub mod TableLemmas
 pub mod HeardLemmas

@@ -1,9 +1,9 @@
 -- What is known of a question on which the work is done, as a part of an answer.
 use Rattle.std.proofs.Common.{◌≡◌, ℕ, Bool, true, false, ◌&&◌, List}
-use Rattle.std.proofs.Common.{length, Vec}
-use Rattle.std.proofs.Common.{Global, refl, sym, ap, ◌∙◌, subst, arith, get_or, Option}
-use Rattle.std.proofs.Common.{Some, None, Result, Ok, Err}
-use Rattle.std.specs.Prelude.{is_some, IfOk, IfSome}
+use Rattle.std.proofs.Common.{length}
+use Rattle.std.proofs.Common.{refl, sym, ap, ◌∙◌, subst, arith, get_or, Option}
+use Rattle.std.proofs.Common.{Some, None}
+use Rattle.std.specs.Prelude.{is_some, IfSome}
 use Rattle.std.specs.List.{slice_get, list_all}
 use Rattle.std.proofs.lemmas.Bool.{false≢true, or_from}
 use Rattle.std.proofs.lemmas.List.{get_or-map, length-map}
@@ -11,26 +11,19 @@ use Rattle.std.proofs.lemmas.List.Folds.{list_all-append}
 use Rattle.std.proofs.lemmas.Option.{slice_get_within, get_or_from_slice_get}
 use Rattle.league_core.specs.declared.sheet.Sheet.{Sheet}
 use Rattle.league_core.specs.declared.question.Question.{Question}
-use Rattle.league_core.specs.game.Results.{Results, are_results}
-use Rattle.league_core.specs.game.Seasons.{IsLeague}
-use Rattle.league_core.specs.game.Questions.{IsExample, IsQuestionOf}
+use Rattle.league_core.specs.game.Results.{Results}
+use Rattle.league_core.specs.game.Questions.{IsQuestionOf}
 use Rattle.league_core.specs.search.Trees.{Tree, open_leaf, lent_leaf, refuted_leaf, branch}
 use Rattle.league_core.specs.search.Trees.{preorder, is_refuted}
-use Rattle.cert_text.specs.declared.proof_line.ProofLine.{ProofLine}
-use Rattle.cert_text.specs.Ranges.{is_in_range}
-use Rattle.cert_text.specs.TreeLines.{IsRefutationTree, IsFairSpentTree, plain_lines, marked_lines}
-use Rattle.cert_text.specs.TreeLines.{with_tree_head, with_spent_head}
-use Rattle.cert_text.specs.ExampleLines.{example_lines}
-use Rattle.cert_text.proofs.TreeRangeLemmas.{plain_lines_in_range, marked_lines_in_range}
-use Rattle.cert_text.proofs.ExampleRangeLemmas.{example_in_range}
+use Rattle.cert_text.specs.TreeLines.{IsRefutationTree, IsFairSpentTree}
 use Rattle.branch_pool.specs.declared.question_state.QuestionState.{QuestionState}
 use Rattle.branch_pool.specs.inside.States.{PoolView}
 use Rattle.branch_pool.specs.inside.Goodness.{IsSoundPool, IsGoodSeat}
-use Rattle.verdict_run.specs.declared.part.Known.TheVariants.{Won, Refuted, Spent}
-use Rattle.verdict_run.specs.declared.part.Part.{Part}
+use Rattle.answer_rows.specs.declared.part.Part.{Part}
 use Rattle.answer_rows.specs.NewTrees.{is_all_new, is_not_old}
 use Rattle.verdict_run.specs.inside.Working.{AreSettled, IsEnough}
-use Rattle.verdict_run.specs.inside.Parts.{IsAnswerPart, IsPartAt, IsRefutedPart, IsRefutedAt}
+use Rattle.answer_rows.specs.inside.AnswerParts.{IsAnswerPart, IsRefutedPart}
+use Rattle.verdict_run.specs.inside.Parts.{IsPartAt, IsRefutedAt}
 use Rattle.verdict_run.specs.inside.Parts.{IsDoneSeat}
 use Rattle.verdict_run.proofs.SettledLemmas.{settled_at}
 use Rattle.verdict_run.proofs.ShownLemmas.{pool_league, pool_results, question_at, seat_meets}
@@ -56,46 +49,6 @@ is_all_new-list (branch test fresh yes_half no_half) =
     regroup : (a b c : Bool) → (a && (b && c)) ≡ (a && b && c)
     regroup true b c = refl
     regroup false b c = refl
-
--- ---- parts
-
--- an example as a part
-pub won_part : (sheet : Sheet) (season : Results) (question : Question) (finish : Results)
-    (lots : List ℕ) (lines : Vec ProofLine Global) → IsLeague sheet season
-    → are_results season ≡ true → IsExample sheet season question finish lots
-    → lines.items ≡ example_lines question.claim season finish lots
-    → IsAnswerPart sheet season question (record { known = Won; lines = lines })
-won_part sheet season question finish lots lines league results example are = record {
-  shows = (finish, lots, example, are);
-  in_range = ap (list_all is_in_range) are
-      ∙ example_in_range sheet season question finish lots league results example;
-}
-
--- a refutation as a part
-pub refuted_part : (sheet : Sheet) (season : Results) (question : Question) (tree : Tree)
-    (lines : Vec ProofLine Global) → IsRefutationTree sheet season question tree
-    → lines.items ≡ with_tree_head question.claim (plain_lines tree)
-    → IsAnswerPart sheet season question (record { known = Refuted; lines = lines })
-refuted_part sheet season question tree lines shown are = record {
-  shows = (plain_lines tree, (tree, shown, refl), are);
-  in_range = ap (list_all is_in_range) are
-      ∙ plain_lines_in_range sheet season question tree shown.tests shown.reasons;
-}
-
--- a tree on which the budget was spent as a part
-pub spent_part : {E : Type 0} (sheet : Sheet) (season : Results) (question : Question) (tree : Tree)
-    (result : Result Part E) → IsFairSpentTree sheet season question sheet.budget tree
-    → is_all_new tree ≡ true → IfOk result (λ part. part.known ≡ Spent)
-    → IfOk result
-    (λ part. part.lines.items ≡ with_spent_head question.claim (marked_lines tree))
-    → IfOk result (IsAnswerPart sheet season question)
-spent_part {E} sheet season question tree (Ok part) shown new known are = record {
-  shows = rw known (tree, shown, new, are);
-  in_range = ap (list_all is_in_range) are
-      ∙ marked_lines_in_range sheet season question tree shown.tree_spent.tests
-      shown.tree_spent.reasons;
-}
-spent_part {E} sheet season question tree (Err stop) shown new known are = tt
 
 -- ---- questions on which the work is done
 
@@ -155,7 +108,7 @@ pub refuted_there : (pool : PoolView) (place : ℕ) (seat : QuestionState) (shee
     → IsRefutedAt pool place part
 refuted_there pool place seat sheet season part sound found same_sheet same_season refuted =
     λ question asked. record {
-      known = refuted.known;
+      kind = refuted.kind;
       part_of = part_at pool place seat sheet season part sound found same_sheet same_season
           refuted.part_of question asked;
     }

@@ -17,11 +17,11 @@ use Rattle.league_core.specs.declared.season.Event.TheVariants.{Set, Deduct}
 use Rattle.league_core.specs.declared.question.Question.{Question}
 use Rattle.league_core.specs.game.Results.{Results, are_results, is_score_or_none}
 use Rattle.league_core.specs.game.Seasons.{event_applied}
-use Rattle.tree_reuse.specs.inside.Retargets.{retargeted}
+use Rattle.tree_reuse.specs.Retargets.{retargeted}
 use Rattle.branch_pool.specs.declared.question_state.QuestionState.{QuestionState}
 use Rattle.branch_pool.specs.inside.States.{PoolView, new_seat}
 use Rattle.branch_pool.specs.inside.Steps.{Changes, seat_changed}
-use Rattle.verdict_run.specs.declared.fresh.Solved.{Solved}
+use Rattle.answer_rows.specs.declared.solved.Solved.{Solved}
 use Rattle.answer_rows.specs.NewTrees.{is_all_new}
 use Rattle.verdict_run.specs.inside.Working.{AreAllNew}
 use Rattle.verdict_run.specs.inside.Solving.{IsSolved}
@@ -82,6 +82,15 @@ seats_unreported sheet season (question ∷ questions) =
     (seat_unreported sheet season question)
     ∙ ap (λ seats. new_seat question ∷ seats) (seats_unreported sheet season questions)
 
+-- an event leaves a pool on which no work was done as it is but for the season
+pub unworked_changed : (event : Event) (old new : PoolView) → Changes old event new
+    → old.seats ≡ map new_seat old.questions → new.seats ≡ map new_seat new.questions
+unworked_changed event old new changes unworked =
+    ap (λ pool. pool.seats) changes.after
+    ∙ ap (map (seat_changed old.sheet (event_applied old.season event))) unworked
+    ∙ seats_unreported old.sheet (event_applied old.season event) old.questions
+    ∙ ap (map new_seat) (sym (ap (λ pool. pool.questions) changes.after))
+
 -- the pool after an event, if the event reports the next club or fixture
 change_reported : (whole : Results) (clubs fixtures more_clubs more_fixtures : ℕ) (event : Event)
     (old new : PoolView) → HasBeenReported whole clubs fixtures old → Changes old event new
@@ -91,13 +100,10 @@ change_reported : (whole : Results) (clubs fixtures more_clubs more_fixtures : �
     → HasBeenReported whole more_clubs more_fixtures new
 change_reported whole clubs fixtures more_clubs more_fixtures event old new so_far changes is one =
     let after = changes.after in
-    let season = event_applied old.season event in
     record {
       season = ap (λ pool. pool.season) after ∙ ap (λ s. event_applied s event) so_far.season
           ∙ is;
-      seats = ap (λ pool. pool.seats) after ∙ ap (map (seat_changed old.sheet season)) so_far.seats
-          ∙ seats_unreported old.sheet season old.questions
-          ∙ ap (map new_seat) (sym (ap (λ pool. pool.questions) after));
+      seats = unworked_changed event old new changes so_far.seats;
       loans = ap (λ pool. pool.loans) after ∙ so_far.loans;
       events =
           let more : length new.log ≡ length old.log + 1 =
@@ -196,13 +202,12 @@ deduction_within whole club may inside =
         within points i (omega (arith, inside))
         (and_parts (nat_le p 99) (list_all (λ q. nat_le q 99) points) all).1
 
--- a pool to which only a season was reported has nothing but open leaves
-pub unreported_new : (whole : Results) (clubs fixtures : ℕ) (pool : PoolView)
-    → HasBeenReported whole clubs fixtures pool → AreAllNew pool
-unreported_new whole clubs fixtures pool so_far =
+-- a pool on which no work was done has nothing but open leaves
+pub unworked_new : (pool : PoolView) → pool.seats ≡ map new_seat pool.questions → AreAllNew pool
+unworked_new pool unworked =
     let New : QuestionState → Type 0 = λ seat. is_all_new seat.tree ≡ true in
     let P : List QuestionState → Type 0 = λ seats. All New seats in
-    subst P (sym so_far.seats) (all pool.questions)
+    subst P (sym unworked) (all pool.questions)
   where
     all : (questions : List Question)
         → All (λ (seat : QuestionState). is_all_new seat.tree ≡ true) (map new_seat questions)
@@ -210,6 +215,11 @@ unreported_new whole clubs fixtures pool so_far =
     all (question ∷ questions) =
         All-cons (λ (seat : QuestionState). is_all_new seat.tree ≡ true) (new_seat question)
         (map new_seat questions) refl (all questions)
+
+-- so has one to which only a season was reported
+pub unreported_new : (whole : Results) (clubs fixtures : ℕ) (pool : PoolView)
+    → HasBeenReported whole clubs fixtures pool → AreAllNew pool
+unreported_new whole clubs fixtures pool so_far = unworked_new pool so_far.seats
 
 -- what is found of a question is found of an equal one, of an equal season and sheet
 pub solved_same : (sheet other : Sheet) (season later : Results) (question : Question)

@@ -18,7 +18,7 @@ use Rattle.league_core.specs.game.Results.{Results}
 use Rattle.league_core.specs.search.Trees.{has_open, is_refuted, is_spent, new_count}
 use Rattle.league_core.specs.inside.Lending.{lent_count}
 use Rattle.league_core.proofs.LendingLemmas.{settled_is_refuted}
-use Rattle.branch_pool.specs.declared.question_state.Example.{Example}
+use Rattle.tree_arena.specs.declared.example.Example.{Example}
 use Rattle.branch_pool.specs.declared.question_state.QuestionState.{QuestionState}
 use Rattle.branch_pool.specs.declared.ticket.Answer.TheVariants.{Won, NotYet}
 use Rattle.branch_pool.specs.inside.Calls.{answer_without, answer_of}

@@ -16,19 +16,18 @@ use Rattle.league_core.specs.game.Results.{Results, are_results}
 use Rattle.league_core.specs.game.Seasons.{IsSeasonOf, IsLeague}
 use Rattle.league_core.specs.inside.FinishList.{ways_to_finish}
 use Rattle.league_core.specs.game.Questions.{IsExample}
-use Rattle.league_core.specs.game.Verdicts.{HasNoExample}
-use Rattle.league_core.specs.search.Trees.{Tree, is_refuted}
+use Rattle.league_core.specs.search.Trees.{is_refuted}
 use Rattle.league_core.specs.search.Splits.{IsReasonTrue, IsUnitIfNew, AreReasonsTrue}
 use Rattle.league_core.proofs.LogLemmas.{season_after_of, season_after_results}
 use Rattle.league_core.proofs.TreeLemmas.{NodesMeet-weaker}
-use Rattle.reason_laws.proofs.RefutationLemmas.{refutation_shows, refuted_from}
 use Rattle.reason_laws.proofs.WeightLemmas.{spent_below_finishes}
 use Rattle.cert_text.specs.TreeLines.{IsRefutationTree, IsFairSpentTree, are_tests_for}
 use Rattle.cert_text.proofs.ProperLemmas.{proper_tests}
-use Rattle.branch_pool.specs.declared.question_state.Example.{Example}
+use Rattle.tree_arena.specs.declared.example.Example.{Example}
 use Rattle.branch_pool.specs.declared.question_state.QuestionState.{QuestionState}
 use Rattle.branch_pool.specs.inside.States.{PoolView, out_count, has_work}
-use Rattle.branch_pool.specs.inside.Goodness.{IsSoundPool, IsGoodSeat, IsGoodNode, IsExampleOf}
+use Rattle.branch_pool.specs.inside.Goodness.{IsSoundPool, IsGoodSeat, IsExampleOf}
+use Rattle.tree_arena.specs.inside.GoodNodes.{IsGoodNode}
 use Rattle.reason_core.specs.inside.Dones.{finding_of}
 use Rattle.branch_pool.specs.inside.Steps.{seat_lent, seat_after, leaf_after}
 use Rattle.branch_pool.proofs.RunLemmas.{no_work_answers}
@@ -37,7 +36,8 @@ use Rattle.branch_pool.proofs.GoodLemmas.{seat_proper}
 use Rattle.verdict_run.specs.inside.Working.{WorksTo, no_turn, one_turn_more, is_settled, is_known}
 use Rattle.verdict_run.specs.inside.Working.{AreSettled, AreAllNew, AreDecided, IsEnough}
 use Rattle.answer_rows.specs.NewTrees.{is_all_new}
-use Rattle.verdict_run.proofs.NewTreeLemmas.{is_all_new-put, is_all_new-lend, leaf_is_new}
+use Rattle.answer_rows.proofs.NewTreeLemmas.{is_all_new-put, is_all_new-lend}
+use Rattle.verdict_run.proofs.NewTreeLemmas.{leaf_is_new}
 use Rattle.verdict_run.proofs.SettledLemmas.{seat_spent, settled_at, IsOnlySeat}
 use Rattle.verdict_run.proofs.WorkLemmas.{works_home}
 
@@ -69,14 +69,6 @@ refutes_seat sheet season seat league results good refuted = record {
   refuted = refuted;
   reasons = reasons_hold sheet season seat good;
 }
-
--- a question with a refutation has no example
-pub refutation_is_true : (sheet : Sheet) (season : Results) (question : Question) (tree : Tree)
-    → question.club < length sheet.clubs → IsRefutationTree sheet season question tree
-    → HasNoExample sheet season question
-refutation_is_true sheet season question tree club_in shown =
-    refutation_shows sheet season question tree club_in
-    (refuted_from sheet season question tree [] shown.refuted shown.reasons)
 
 -- a tree on which the budget is used up was spent fairly
 pub spends_seat : (sheet : Sheet) (season : Results) (seat : QuestionState) → IsLeague sheet season

@@ -1,14 +1,12 @@
 -- The questions of a sheet by the rows of an answer, and the verdict of a row from what is known of
 -- its two questions.
 use Rattle.std.proofs.Common.{◌≡◌, ◌≢◌, ℕ, zero, suc, ◌+◌, ◌*◌, ◌<◌, ◌≤◌, true, false}
-use Rattle.std.proofs.Common.{List, [], ◌∷◌, ◌++◌, length, Vec, Global, IsTrue, refl, sym, ap, ◌∙◌}
+use Rattle.std.proofs.Common.{List, [], ◌∷◌, ◌++◌, length, Vec, Global, refl, sym, ap, ◌∙◌}
 use Rattle.std.proofs.Common.{subst, arith, map, get_or, take, Some, append_assoc}
 use Rattle.std.specs.Prelude.{All, pos}
 use Rattle.std.specs.List.{slice_get, list_all, flat_map, range_with_len}
-use Rattle.std.proofs.lemmas.Bool.{and_from, and_parts}
 use Rattle.std.proofs.lemmas.Option.{slice_get-get_or, get_or_from_slice_get, slice_get_within}
 use Rattle.std.proofs.lemmas.List.{take_more, take_all, map-append, length-map, length-take-le}
-use Rattle.std.proofs.lemmas.List.Folds.{list_all-append}
 use Rattle.std.proofs.lemmas.List.Elements.{All-nil, All-cons, All-append}
 use Rattle.league_core.specs.declared.sheet.Sheet.{Sheet}
 use Rattle.league_core.specs.declared.question.Claim.TheVariants.{Inside, Outside}
@@ -25,24 +23,28 @@ use Rattle.branch_pool.specs.declared.ticket.Answer.TheVariants as answer
 use Rattle.branch_pool.specs.inside.States.{PoolView}
 use Rattle.branch_pool.specs.inside.Calls.{answer_of}
 use Rattle.branch_pool.specs.inside.Goodness.{IsSoundPool, IsGoodSeat}
-use Rattle.verdict_run.specs.declared.part.Known.{Known}
-use Rattle.verdict_run.specs.declared.part.Known.TheVariants.{Won, Refuted, Spent}
-use Rattle.verdict_run.specs.declared.part.Part.{Part}
+use Rattle.answer_rows.specs.declared.part.PartKind.{PartKind}
+use Rattle.answer_rows.specs.declared.part.PartKind.TheVariants.{Won, Refuted, Spent}
+use Rattle.answer_rows.specs.declared.part.Part.{Part}
 use Rattle.answer_rows.specs.declared.word.Word.{Word}
-use Rattle.answer_rows.specs.declared.word.Word.TheVariants.{Clinched, Lost, Possible, Unsettled}
+use Rattle.answer_rows.specs.declared.word.Word.TheVariants.{Clinched, Lost, Unsettled}
 use Rattle.answer_rows.specs.declared.word.Verdict.{Verdict}
-use Rattle.verdict_run.specs.inside.AskedQuestions.{both_questions, questions_of_line, questions_of}
+use Rattle.answer_rows.specs.AskedQuestions.{both_questions, questions_of_line, questions_of}
 use Rattle.verdict_run.specs.inside.Working.{IsEnough}
 use Rattle.answer_rows.specs.Items.{AnswerRow, answer_rows, answer_rows_of, IsItemShown}
 use Rattle.answer_rows.specs.Items.{RefutesIfAsked, answer_row, IsShownVerdict, AreVerdictsOf}
-use Rattle.answer_rows.specs.inside.ItemRanges.{IsInRange, AreInRange, lines_shown}
+use Rattle.answer_rows.specs.inside.ItemRanges.{IsInRange, AreInRange}
 use Rattle.verdict_run.specs.inside.Verdicts.{AreKnownIfEnough}
-use Rattle.verdict_run.specs.inside.Parts.{IsPart, IsAnswerPart, IsRefutedPart, AsksBoth}
-use Rattle.verdict_run.specs.inside.Parts.{IsAnswered, word_by, proof_by}
+use Rattle.answer_rows.specs.inside.AnswerParts.{IsPart, IsAnswerPart, IsRefutedPart}
+use Rattle.verdict_run.specs.inside.Parts.{AsksBoth}
+use Rattle.verdict_run.specs.inside.Parts.{IsAnswered}
+use Rattle.answer_rows.specs.inside.AnswerParts.{word_by, proof_by}
 use Rattle.verdict_run.specs.inside.Kept.{IsOfPool, AreOfPool}
-use Rattle.verdict_run.proofs.ShownLemmas.{refutation_is_true, refutes_seat, seat_meets}
+use Rattle.answer_rows.proofs.PartLemmas.{refutation_is_true}
+use Rattle.verdict_run.proofs.ShownLemmas.{refutes_seat, seat_meets}
 use Rattle.verdict_run.proofs.ShownLemmas.{pool_league, pool_results, question_at}
 use Rattle.verdict_run.proofs.KeptLemmas.{none_of_pool, pushed_of_pool, refuted_is}
+use Rattle.answer_rows.proofs.PartLemmas.{range_by, all_lines}
 
 -- ---- rows
 
@@ -141,7 +143,7 @@ clinched_shown sheet season line club lines inside shows =
     refutation_is_true sheet season (full_question club line Outside) shows.1.0 inside shows.1.1
 
 -- the word and its lines, by what is known
-pub shown_by : (sheet : Sheet) (season : Results) (line club : ℕ) (inside outside : Known)
+pub shown_by : (sheet : Sheet) (season : Results) (line club : ℕ) (inside outside : PartKind)
     (first second : List ProofLine) → club < length sheet.clubs
     → IsPart sheet season (full_question club line Inside) inside first
     → IsPart sheet season (full_question club line Outside) outside second
@@ -162,20 +164,8 @@ shown_by sheet season line club Spent Won first second club_in one two =
 shown_by sheet season line club Spent Spent first second club_in one two =
     (true, true, refl, (first, second, refl, one, two))
 
--- lines in range, whichever they are
-pub range_by : (word : Word) (first second : List ProofLine) → list_all is_in_range first ≡ true
-    → list_all is_in_range second ≡ true → list_all is_in_range (proof_by word first second) ≡ true
-range_by Clinched first second one two = two
-range_by Lost first second one two = one
-range_by Possible first second one two =
-    list_all-append is_in_range first second
-    ∙ and_from (list_all is_in_range first) (list_all is_in_range second) one two
-range_by Unsettled first second one two =
-    list_all-append is_in_range first second
-    ∙ and_from (list_all is_in_range first) (list_all is_in_range second) one two
-
 -- if nothing is spent nothing is unsettled
-known_by : (inside outside : Known) → inside ≢ Spent → outside ≢ Spent
+known_by : (inside outside : PartKind) → inside ≢ Spent → outside ≢ Spent
     → word_by inside outside ≢ Unsettled
 known_by Refuted outside one two = λ e. cc
 known_by Won Refuted one two = λ e. cc
@@ -184,14 +174,6 @@ known_by Won Spent one two = λ e. two refl
 known_by Spent Refuted one two = λ e. one refl
 known_by Spent Won one two = λ e. one refl
 known_by Spent Spent one two = λ e. one refl
-
--- lines of which each is in range
-pub all_lines : (lines : List ProofLine) → list_all is_in_range lines ≡ true
-    → All (λ line. IsTrue (is_in_range line)) lines
-all_lines [] all = All-nil (λ line. is_in_range line ≡ true)
-all_lines (line ∷ lines) all =
-    let parts = and_parts (is_in_range line) (list_all is_in_range lines) all in
-    All-cons (λ l. is_in_range l ≡ true) line lines parts.0 (all_lines lines parts.1)
 
 -- a verdict about a row's club, with such lines
 in_range_of : (sheet : Sheet) (question : Question) (row : AnswerRow) (word : Word)
@@ -216,18 +198,18 @@ pub answered_by : (pool : PoolView) (row : AnswerRow) (question : Question) (ins
     → row.club < length pool.sheet.clubs
     → IsAnswerPart pool.sheet pool.season (full_question row.club row.line Inside) inside
     → IsAnswerPart pool.sheet pool.season (full_question row.club row.line Outside) outside
-    → (IsEnough pool.sheet pool.season → inside.known ≢ Spent)
-    → (IsEnough pool.sheet pool.season → outside.known ≢ Spent)
-    → proof.items ≡ proof_by (word_by inside.known outside.known) inside.lines.items
+    → (IsEnough pool.sheet pool.season → inside.kind ≢ Spent)
+    → (IsEnough pool.sheet pool.season → outside.kind ≢ Spent)
+    → proof.items ≡ proof_by (word_by inside.kind outside.kind) inside.lines.items
     outside.lines.items
     → IsAnswered pool row (record {
       line = question.line;
       club = question.club;
-      word = word_by inside.known outside.known;
+      word = word_by inside.kind outside.kind;
       proof = proof;
     })
 answered_by pool row question inside outside proof is club_in one two few_one few_two are =
-    let word = word_by inside.known outside.known in
+    let word = word_by inside.kind outside.kind in
     let inside_word = word in
     let P : List ProofLine → Type 0 =
     λ lines. IsItemShown true pool.sheet pool.season row.line row.club word lines in
@@ -236,19 +218,19 @@ answered_by pool row question inside outside proof is club_in one two few_one fe
     record {
       is_row = ap (λ q. record { line = q.line; club = q.club }) is;
       shown = subst Q (sym is) (subst P (sym are) (shown_by pool.sheet pool.season row.line row.club
-          inside.known outside.known inside.lines.items outside.lines.items club_in one.shows
+          inside.kind outside.kind inside.lines.items outside.lines.items club_in one.shows
           two.shows));
       in_range = in_range_of pool.sheet question row inside_word proof is club_in
           (ap (list_all is_in_range) are
           ∙ range_by word inside.lines.items outside.lines.items one.in_range two.in_range);
-      enough = λ great. known_by inside.known outside.known (few_one great) (few_two great);
+      enough = λ great. known_by inside.kind outside.kind (few_one great) (few_two great);
     }
 
 -- the verdict of a row whose `Inside` is refuted
 pub answered_lost : (pool : PoolView) (row : AnswerRow) (question : Question) (inside : Part)
     → question ≡ full_question row.club row.line Inside → row.club < length pool.sheet.clubs
     → IsAnswerPart pool.sheet pool.season (full_question row.club row.line Inside) inside
-    → inside.known ≡ Refuted
+    → inside.kind ≡ Refuted
     → IsAnswered pool row (record {
       line = question.line;
       club = question.club;
@@ -256,7 +238,7 @@ pub answered_lost : (pool : PoolView) (row : AnswerRow) (question : Question) (i
       proof = inside.lines;
     })
 answered_lost pool row question inside is club_in one known =
-    let R : Known → Type 0 = λ k. IsPart pool.sheet pool.season
+    let R : PartKind → Type 0 = λ k. IsPart pool.sheet pool.season
     (full_question row.club row.line Inside) k inside.lines.items in
     let shows = subst R known one.shows in
     let Q : Question → Type 0 = λ q. IsItemShown true pool.sheet pool.season q.line q.club Lost
@@ -282,9 +264,9 @@ pub answered_clinched : (pool : PoolView) (row : AnswerRow) (question : Question
       proof = outside.lines;
     })
 answered_clinched pool row question outside is club_in two =
-    let R : Known → Type 0 = λ k. IsPart pool.sheet pool.season
+    let R : PartKind → Type 0 = λ k. IsPart pool.sheet pool.season
     (full_question row.club row.line Outside) k outside.lines.items in
-    let shows = subst R two.known two.part_of.shows in
+    let shows = subst R two.kind two.part_of.shows in
     let Q : Question → Type 0 = λ q. IsItemShown true pool.sheet pool.season q.line q.club
     Clinched outside.lines.items in
     record {
@@ -336,12 +318,12 @@ not_refuted_too pool place row outside seat sound asks two there answered =
     let league = pool_league pool sound in
     let results = pool_results pool sound in
     let question = full_question row.club row.line Inside in
-    let R : Known → Type 0 = λ k. IsPart pool.sheet pool.season
+    let R : PartKind → Type 0 = λ k. IsPart pool.sheet pool.season
     (full_question row.club row.line Outside) k outside.lines.items in
     let Q : Question → Type 0 = λ q. IsRefutationTree pool.sheet pool.season q seat.tree in
     clinched_or_lost pool.sheet pool.season row.club row.line sound.limits results club_in
     (clinched_shown pool.sheet pool.season row.line row.club outside.lines.items club_in
-    (subst R two.known two.part_of.shows))
+    (subst R two.kind two.part_of.shows))
     (refutation_is_true pool.sheet pool.season question seat.tree club_in
     (subst Q (question_at pool place seat question sound there asks.inside)
     (refutes_seat pool.sheet pool.season seat league results
@@ -409,14 +391,3 @@ all_answered pool count verdicts so_far all = record {
   rows = so_far.rows ∙ take_all count (answer_rows pool.sheet) all;
   each = so_far.each;
 }
-
--- ---- without proofs
-
--- an item with proofs is one without them
-pub item_without : (sheet : Sheet) (season : Results) (line club : ℕ) (word : Word)
-    (proof : List ProofLine) → IsItemShown true sheet season line club word proof
-    → IsItemShown false sheet season line club word (lines_shown false word proof)
-item_without sheet season line club Clinched proof shown = (shown.0, refl)
-item_without sheet season line club Lost proof shown = (shown.0, refl)
-item_without sheet season line club Possible proof shown = shown
-item_without sheet season line club Unsettled proof shown = shown

@@ -1,19 +1,18 @@
 //! The verdicts of a pool on which the work is done.
 
-ghost use Rattle.std.specs.Prelude.{◌≡◌, ◌+◌, ◌<◌, ◌++◌, IfOk, length};
+ghost use Rattle.std.specs.Prelude.{◌≡◌, ◌+◌, ◌<◌, IfOk, length};
 ghost use Rattle.answer_rows.specs.declared.word.Verdict.{Verdict};
-ghost use Rattle.verdict_run.specs.inside.AskedQuestions.{questions_of};
+ghost use Rattle.answer_rows.specs.AskedQuestions.{questions_of};
 ghost use Rattle.verdict_run.specs.inside.Working.{AreSettled};
 ghost use Rattle.answer_rows.specs.Items.{AnswerRow, AreVerdictsOf};
 ghost use Rattle.answer_rows.specs.inside.ItemRanges.{AreInRange};
-ghost use Rattle.verdict_run.specs.inside.Parts.{AsksBoth, IsAnswered, word_by, proof_by};
+ghost use Rattle.verdict_run.specs.inside.Parts.{AsksBoth, IsAnswered};
 ghost use Rattle.verdict_run.specs.inside.Kept.{IsOfPool, AreOfPool};
 ghost use Rattle.verdict_run.specs.inside.Verdicts.{AreKnownIfEnough};
 
-use crate::part::{Known, Part, part_of, refuted_at};
-use answer_rows::{Verdict, Word};
+use crate::part::{part_of, refuted_at};
+use answer_rows::{PartKind, Verdict, Word, joined, word_of};
 use branch_pool::Pool;
-use cert_text::ProofLine;
 use league_core::OutOfMemory;
 use std::alloc::Global;
 
@@ -60,7 +59,7 @@ fn verdict_at(alloc: Global, pool: &Pool, place: u16) -> Result<Verdict, OutOfMe
         });
     }
     let inside = part_of(alloc, pool, place)?;
-    if let Known::Refuted = inside.known {
+    if let PartKind::Refuted = inside.kind {
         let word = Word::Lost;
         return Ok(Verdict {
             line,
@@ -70,7 +69,7 @@ fn verdict_at(alloc: Global, pool: &Pool, place: u16) -> Result<Verdict, OutOfMe
         });
     }
     let outside = part_of(alloc, pool, place + 1)?;
-    let word = word_of(inside.known, outside.known);
+    let word = word_of(inside.kind, outside.kind);
     let proof = joined(word, inside, outside)?;
     Ok(Verdict {
         line,
@@ -78,37 +77,4 @@ fn verdict_at(alloc: Global, pool: &Pool, place: u16) -> Result<Verdict, OutOfMe
         word,
         proof,
     })
-}
-
-/// The word, by what is known of `Inside` and of `Outside`.
-pub fn word_of(inside: Known, outside: Known) -> Word
-    ensures { result ≡ word_by inside outside }
-{
-    match (inside, outside) {
-        (Known::Refuted, _) => Word::Lost,
-        (_, Known::Refuted) => Word::Clinched,
-        (Known::Won, Known::Won) => Word::Possible,
-        _ => Word::Unsettled,
-    }
-}
-
-/// The lines after the word, out of those of the two parts.
-pub fn joined(word: Word, inside: Part, outside: Part) -> Result<Vec<ProofLine>, OutOfMemory>
-    ensures { IfOk result (λ lines. lines.items
-        ≡ proof_by word inside.lines.items outside.lines.items) }
-{
-    match word {
-        Word::Clinched => Ok(outside.lines),
-        Word::Lost => Ok(inside.lines),
-        Word::Possible | Word::Unsettled => append(inside.lines, outside.lines),
-    }
-}
-
-fn append(mut lines: Vec<ProofLine>, more: Vec<ProofLine>) -> Result<Vec<ProofLine>, OutOfMemory>
-    ensures { IfOk result (λ all. all.items ≡ lines.items ++ more.items) }
-{
-    for line in more {
-        lines.push(line)?;
-    }
-    Ok(lines)
 }

@@ -9,22 +9,11 @@ ghost use Rattle.verdict_run.specs.inside.Solving.{IsSolved};
 
 use crate::reporting::report_season;
 use crate::turns::finish;
-use branch_pool::{Example, Pool, QuestionState};
-use league_core::{Finish, Lots, OutOfMemory, Question, Season, Sheet};
+use answer_rows::Solved;
+use branch_pool::{Pool, QuestionState};
+use league_core::{OutOfMemory, Question, Season, Sheet};
 use std::alloc::Global;
-use tree_arena::Tree;
-
-/// What is found of a question from its root on. All splits and refuted leaves of the trees are
-/// new.
-#[derive(Drop)]
-pub enum Solved {
-    /// A finish and lots at which it holds.
-    Won(Finish, Lots),
-    /// Each leaf is refuted by a reason that holds.
-    Refuted(Tree),
-    /// The budget was spent on this tree.
-    Spent(Tree),
-}
+use tree_arena::Example;
 
 /// Works on one question of a season from its root on, until it is known or the budget is spent.
 pub fn solve_fresh(

@@ -4,78 +4,24 @@ ghost use Rattle.std.specs.Prelude.{◌≡◌, ◌≢◌, ◌<◌, IfOk, IfSome,
 ghost use Rattle.std.specs.List.{list_all};
 ghost use Rattle.league_core.specs.game.Results.{are_results};
 ghost use Rattle.league_core.specs.game.Seasons.{IsLeague};
-ghost use Rattle.league_core.specs.game.Questions.{IsExample, IsQuestionOf};
-ghost use Rattle.cert_text.specs.TreeLines.{IsFairSpentTree, IsRefutationTree};
-ghost use Rattle.cert_text.specs.TreeLines.{plain_lines, marked_lines};
-ghost use Rattle.cert_text.specs.TreeLines.{with_tree_head, with_spent_head};
+ghost use Rattle.league_core.specs.game.Questions.{IsQuestionOf};
+ghost use Rattle.cert_text.specs.TreeLines.{IsFairSpentTree};
+ghost use Rattle.cert_text.specs.TreeLines.{marked_lines};
+ghost use Rattle.cert_text.specs.TreeLines.{with_spent_head};
 ghost use Rattle.cert_text.specs.ExampleLines as shown;
 ghost use Rattle.answer_rows.specs.NewTrees.{is_all_new, is_not_old};
 ghost use Rattle.verdict_run.specs.inside.Working.{AreSettled, IsEnough};
-ghost use Rattle.verdict_run.specs.inside.Parts.{IsAnswerPart, IsPartAt, IsDoneSeat, IsRefutedPart};
+ghost use Rattle.answer_rows.specs.inside.AnswerParts.{IsAnswerPart, IsRefutedPart};
+ghost use Rattle.verdict_run.specs.inside.Parts.{IsPartAt, IsDoneSeat};
 ghost use Rattle.verdict_run.specs.inside.Parts.{IsRefutedAt};
 ghost use Rattle.verdict_run.specs.inside.Kept.{IsOfSeat, IsOfPlace, IsFoundIfRefuted, IsFoundAt};
 
-use crate::fresh::{Solved, solve_fresh};
-use crate::lines::{example_lines, refutation_lines, spent_lines};
+use crate::fresh::solve_fresh;
+use answer_rows::{Part, PartKind, Solved};
 use branch_pool::{Pool, QuestionState};
-use cert_text::ProofLine;
-use league_core::{Finish, Lots, OutOfMemory, Question, Season, Sheet, TreeNode};
+use league_core::{OutOfMemory, Question, Season, Sheet, TreeNode};
 use std::alloc::Global;
 use tree_arena::Tree;
-
-/// How far a question is.
-#[derive(Clone, Copy)]
-pub enum Known {
-    /// An example is there.
-    Won,
-    /// There is none.
-    Refuted,
-    /// The budget was spent before this was known.
-    Spent,
-}
-
-/// What is known of a question, and the lines that show it.
-#[derive(Drop)]
-pub struct Part {
-    pub known: Known,
-    pub lines: Vec<ProofLine>,
-}
-
-impl Part {
-    /// The part of an example, which is shown by its lines.
-    pub fn won(
-        alloc: Global,
-        sheet: &Sheet,
-        season: &Season,
-        question: &Question,
-        finish: &Finish,
-        lots: &Lots,
-    ) -> Result<Part, OutOfMemory>
-        requires league { IsLeague sheet.now season.now }
-        requires results { IsTrue (are_results season.now) }
-        requires example { IsExample sheet.now season.now question.now finish.now lots.now }
-        ensures part { IfOk result (IsAnswerPart sheet.now season.now question.now) }
-        ensures known { IfOk result (λ part. part.known ≡ Known.Won) }
-        ensures lines { IfOk result (λ part. part.lines.items
-            ≡ shown.example_lines question.now.claim season.now finish.now lots.now) }
-    {
-        let lines = example_lines(alloc, season, question.claim, finish, lots)?;
-        let known = Known::Won;
-        Ok(Part { known, lines })
-    }
-
-    /// The part of a tree on which the budget was spent.
-    pub fn spent(alloc: Global, question: &Question, tree: &Tree) -> Result<Part, OutOfMemory>
-        ensures known { IfOk result (λ part. part.known ≡ Known.Spent) }
-        ensures lines { IfOk result (λ part. part.lines.items
-            ≡ with_spent_head question.now.claim (marked_lines tree.now)) }
-    {
-        let nodes = tree.nodes()?;
-        let lines = spent_lines(alloc, question.claim, nodes.as_slice())?;
-        let known = Known::Spent;
-        Ok(Part { known, lines })
-    }
-}
 
 /// The part of the question at a place. A tree that is not all new is no part of an answer: if the
 /// budget was spent on one, the question is worked on once more from its root.
@@ -84,7 +30,7 @@ pub(crate) fn part_of(alloc: Global, pool: &Pool, place: u16) -> Result<Part, Ou
     requires settled { AreSettled pool.now }
     ensures part { IfOk result (IsPartAt pool.now place) }
     ensures enough { IfOk result (λ part. IsEnough pool.now.sheet pool.now.season
-        → part.known ≢ Known.Spent) }
+        → part.kind ≢ PartKind.Spent) }
     ensures of_pool { IfOk result (IsOfPlace pool.now place) }
 {
     pool.recall_invariant();
@@ -115,7 +61,7 @@ fn part_of_seat(
     requires { IsDoneSeat sheet.now season.now seat.now }
     ensures part { IfOk result (IsAnswerPart sheet.now season.now seat.now.question) }
     ensures enough { IfOk result (λ part. IsEnough sheet.now season.now
-        → part.known ≢ Known.Spent) }
+        → part.kind ≢ PartKind.Spent) }
     ensures of_seat { IfOk result (IsOfSeat sheet.now season.now seat.now) }
 {
     match &seat.example {
@@ -127,7 +73,9 @@ fn part_of_seat(
             &example.finish,
             &example.lots,
         ),
-        None if seat.tree.is_refuted() => refuted(alloc, sheet, season, &seat.question, &seat.tree),
+        None if seat.tree.is_refuted() => {
+            Part::refuted(alloc, sheet, season, &seat.question, &seat.tree)
+        }
         None => spent_or_fresh(alloc, sheet, season, &seat.question, &seat.tree),
     }
 }
@@ -144,29 +92,11 @@ fn refuted_seat(
     ensures of_seat { IfOk result (IsFoundIfRefuted seat.now) }
 {
     if seat.tree.is_refuted() {
-        let part = refuted(alloc, sheet, season, &seat.question, &seat.tree)?;
+        let part = Part::refuted(alloc, sheet, season, &seat.question, &seat.tree)?;
         Ok(Some(part))
     } else {
         Ok(None)
     }
-}
-
-fn refuted(
-    alloc: Global,
-    sheet: &Sheet,
-    season: &Season,
-    question: &Question,
-    tree: &Tree,
-) -> Result<Part, OutOfMemory>
-    requires { IsRefutationTree sheet.now season.now question.now tree.now }
-    ensures part { IfOk result (IsAnswerPart sheet.now season.now question.now) }
-    ensures known { IfOk result (λ part. part.known ≡ Known.Refuted) }
-    ensures lines { IfOk result (λ part. part.lines.items
-        ≡ with_tree_head question.now.claim (plain_lines tree.now)) }
-{
-    let lines = refutation_lines(alloc, question.claim, tree)?;
-    let known = Known::Refuted;
-    Ok(Part { known, lines })
 }
 
 fn spent_or_fresh(
@@ -189,7 +119,7 @@ fn spent_or_fresh(
     }
     match solve_fresh(alloc, sheet, season, question)? {
         Solved::Won(finish, lots) => Part::won(alloc, sheet, season, question, &finish, &lots),
-        Solved::Refuted(tree) => refuted(alloc, sheet, season, question, &tree),
+        Solved::Refuted(tree) => Part::refuted(alloc, sheet, season, question, &tree),
         Solved::Spent(tree) => Part::spent(alloc, question, &tree),
     }
 }

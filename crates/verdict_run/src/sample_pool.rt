@@ -5,8 +5,8 @@ ghost use Rattle.league_core.specs.game.Limits.{most_events};
 ghost use Rattle.league_core.specs.game.Seasons.{AreEventsOf};
 ghost use Rattle.verdict_run.specs.inside.SamplePools.{IsSamplePool, IsBegun, HasHeard};
 
-use crate::asked::questions;
 use crate::sample::make_sample;
+use answer_rows::questions;
 use branch_pool::Pool;
 use league_core::{Event, OutOfMemory};
 use std::alloc::Global;

@@ -22,11 +22,11 @@ use Rattle.cert_text.proofs.TreeRangeLemmas.{marked_lines_below}
 use Rattle.cert_text.proofs.ExampleRangeLemmas.{example_in_range}
 use Rattle.answer_rows.specs.declared.word.Word.{Word}
 use Rattle.answer_rows.specs.declared.word.Word.TheVariants.{Clinched, Lost}
-use Rattle.verdict_run.specs.declared.part.Part.{Part}
-use Rattle.verdict_run.specs.declared.part.Known.{Known}
-use Rattle.verdict_run.specs.declared.part.Known.TheVariants.{Won, Refuted, Spent}
-use Rattle.verdict_run.specs.inside.Parts.{word_by, proof_by}
-use Rattle.verdict_run.proofs.VerdictLemmas.{range_by, all_lines}
+use Rattle.answer_rows.specs.declared.part.Part.{Part}
+use Rattle.answer_rows.specs.declared.part.PartKind.{PartKind}
+use Rattle.answer_rows.specs.declared.part.PartKind.TheVariants.{Won, Refuted, Spent}
+use Rattle.answer_rows.specs.inside.AnswerParts.{word_by, proof_by}
+use Rattle.answer_rows.proofs.PartLemmas.{range_by, all_lines}
 use Rattle.what_if.specs.Bases.{is_base_of}
 use Rattle.what_if.specs.Given.{IsFairlySpentBelow, IsItemGiven}
 use Rattle.what_if.specs.inside.GivenParts.{IsPartGiven, IsAnswerPartGiven, IsRightGiven}
@@ -39,7 +39,7 @@ pub won_given : {E : Type 0} (sheet : Sheet) (season : Results) (zone : List Lit
     (question : Question) (finish : Results) (lots : List ℕ) (result : Result Part E)
     → IsLeague sheet season → are_results season ≡ true
     → IsExampleIn sheet season question zone finish lots
-    → IfOk result (λ part. part.known ≡ Won)
+    → IfOk result (λ part. part.kind ≡ Won)
     → IfOk result (λ part. part.lines.items ≡ example_lines question.claim season finish lots)
     → IfOk result (IsAnswerPartGiven sheet season zone question)
 won_given {E} sheet season zone question finish lots (Ok part) league results example known are =
@@ -54,7 +54,7 @@ won_given {E} sheet season zone question finish lots (Err stop) league results e
 -- that the question holds nowhere as a part
 pub refuted_given : (sheet : Sheet) (season : Results) (zone : List Literal) (question : Question)
     (part : Part) → HoldsNowhereIn sheet season question zone
-    → part.known ≡ Refuted → part.lines.items ≡ []
+    → part.kind ≡ Refuted → part.lines.items ≡ []
     → IsAnswerPartGiven sheet season zone question part
 refuted_given sheet season zone question part nowhere known are = record {
   shows = rw known (nowhere, are);
@@ -65,7 +65,7 @@ refuted_given sheet season zone question part nowhere known are = record {
 pub spent_given : {E : Type 0} (sheet : Sheet) (season : Results) (zone : List Literal)
     (question : Question) (tree : Tree) (result : Result Part E) → is_base_of sheet zone ≡ true
     → IsFairlySpentBelow sheet season question zone sheet.budget tree
-    → IfOk result (λ part. part.known ≡ Spent)
+    → IfOk result (λ part. part.kind ≡ Spent)
     → IfOk result
     (λ part. part.lines.items ≡ with_spent_head question.claim (marked_lines tree))
     → IfOk result (IsAnswerPartGiven sheet season zone question)
@@ -89,7 +89,7 @@ played_league sheet other season read same_sheet same_season limits of_sheet = r
 
 -- the word and its lines, by what is known
 item_by : (sheet : Sheet) (season : Results) (zone : List Literal) (line club : ℕ)
-    (inside outside : Known) (first second : List ProofLine)
+    (inside outside : PartKind) (first second : List ProofLine)
     → IsPartGiven sheet season zone (full_question club line Inside) inside first
     → IsPartGiven sheet season zone (full_question club line Outside) outside second
     → IsItemGiven sheet season zone line club (word_by inside outside)
@@ -112,14 +112,14 @@ pub right_by : (sheet : Sheet) (season : Results) (zone : List Literal) (line cl
     → club < length sheet.clubs
     → IsAnswerPartGiven sheet season zone (full_question club line Inside) inside
     → IsAnswerPartGiven sheet season zone (full_question club line Outside) outside
-    → word ≡ word_by inside.known outside.known
+    → word ≡ word_by inside.kind outside.kind
     → lines.items ≡ proof_by word inside.lines.items outside.lines.items
     → IsRightGiven sheet season zone
     (record { line = line; club = club; word = word; proof = lines })
 right_by sheet season zone line club inside outside lines word club_in one two word_is are =
     record {
       shown = rw (are, word_is)
-          (item_by sheet season zone line club inside.known outside.known inside.lines.items
+          (item_by sheet season zone line club inside.kind outside.kind inside.lines.items
           outside.lines.items one.shows two.shows);
       in_range = record {
         club = club_in;
@@ -132,7 +132,7 @@ right_by sheet season zone line club inside outside lines word club_in one two w
 pub clinched_by : (sheet : Sheet) (season : Results) (zone : List Literal) (line club : ℕ)
     (outside : Part) → club < length sheet.clubs
     → IsAnswerPartGiven sheet season zone (full_question club line Outside) outside
-    → outside.known ≡ Refuted
+    → outside.kind ≡ Refuted
     → IsRightGiven sheet season zone
     (record { line = line; club = club; word = Clinched; proof = outside.lines })
 clinched_by sheet season zone line club outside club_in two known = record {

@@ -28,11 +28,11 @@ use Rattle.league_core.specs.search.GivenVerdicts.{HoldsNowhereIn, IsExampleIn}
 use Rattle.reason_laws.proofs.HalfMarkLemmas.{zones_for}
 use Rattle.reason_laws.proofs.RefutationLemmas.{refutation_below, refuted_from}
 use Rattle.cert_text.proofs.ProperLemmas.{proper_tests}
-use Rattle.branch_pool.specs.inside.Goodness.{IsGoodNode}
-use Rattle.branch_pool.proofs.QuestionStateLemmas.{open_is_good, lent_is_good}
+use Rattle.tree_arena.specs.inside.GoodNodes.{IsGoodNode}
+use Rattle.tree_arena.proofs.GoodNodeLemmas.{open_is_good, lent_is_good}
 use Rattle.branch_rules.specs.inside.Found.{IsProposedExample}
 use Rattle.answer_rows.specs.NewTrees.{is_all_new}
-use Rattle.verdict_run.proofs.NewTreeLemmas.{is_all_new-put, is_all_new-lend}
+use Rattle.answer_rows.proofs.NewTreeLemmas.{is_all_new-put, is_all_new-lend}
 use Rattle.what_if.specs.declared.task.Task.{Task}
 use Rattle.what_if.specs.Bases.{is_base_of}
 use Rattle.what_if.specs.Given.{IsFairlySpentBelow}

@@ -13,12 +13,11 @@ ghost use Rattle.what_if.specs.inside.GivenParts.{AddsVerdicts, IsBaseIn, IsRigh
 use crate::known_season::KnownSeason;
 use crate::part::part_given;
 use crate::season_part::InSeason;
-use answer_rows::{Verdict, Word};
+use answer_rows::{PartKind, Verdict, Word, full_question, joined, word_of};
 use branch_rules::ZoneSolver;
 use league_core::{Claim, Literal, OutOfMemory, Season, Sheet, Zone};
 use score_box::Played;
 use std::alloc::Global;
-use verdict_run::{Known, full_question, joined, word_of};
 
 /// The verdict of each line and club in those finishes of the season at which the literals of the
 /// base are true: line by line in the order of the sheet, and for each line club by club. The
@@ -138,7 +137,7 @@ fn verdict_given(
     }
     let other = full_question(club, line, Claim::Outside);
     let outside = part_given(alloc, stage, solver, &other, base)?;
-    if let Known::Refuted = outside.known {
+    if let PartKind::Refuted = outside.kind {
         let word = Word::Clinched;
         return Ok(Verdict {
             line,
@@ -148,7 +147,7 @@ fn verdict_given(
         });
     }
     let inside = part_given(alloc, stage, solver, &question, base)?;
-    let word = word_of(inside.known, outside.known);
+    let word = word_of(inside.kind, outside.kind);
     let proof = joined(word, inside, outside)?;
     Ok(Verdict {
         line,

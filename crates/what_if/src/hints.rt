@@ -9,7 +9,6 @@ ghost use Rattle.what_if.specs.inside.SeasonParts.{IsFoundBelow, IsMemberAnyhow}
 
 use crate::literals::are_true;
 use crate::season_part::season_trials;
-use branch_pool::Example;
 use example_finish::try_example;
 use league_core::{
     Claim, Event, Finish, Fixture, Literal, OutOfMemory, Question, Score, Season, Sheet, Test,
@@ -17,6 +16,7 @@ use league_core::{
 use local_search::{walk, walk_from};
 use score_box::Played;
 use std::alloc::Global;
+use tree_arena::Example;
 
 /// What examples are sought by: the season, and an example of the question there.
 #[derive(Clone, Copy)]

@@ -9,11 +9,11 @@ use crate::known_season::KnownSeason;
 use crate::literals::are_true;
 use crate::season_part::InSeason;
 use crate::task::solve_given;
-use branch_pool::Example;
+use answer_rows::{Part, PartKind, Solved};
 use branch_rules::ZoneSolver;
 use league_core::{Literal, OutOfMemory, Question};
 use std::alloc::Global;
-use verdict_run::{Known, Part, Solved};
+use tree_arena::Example;
 
 /// The part of a question, worked on from its root on, below the base: an example that is a member
 /// of the base, or the tree on which the budget was spent. No line shows that it holds nowhere.
@@ -102,10 +102,10 @@ fn worked(
 }
 
 fn refuted(alloc: Global) -> Part
-    ensures known { result.known ≡ Known.Refuted }
+    ensures kind { result.kind ≡ PartKind.Refuted }
     ensures lines { result.lines.items ≡ [] }
 {
     let lines = Vec::new(alloc);
-    let known = Known::Refuted;
-    Part { known, lines }
+    let kind = PartKind::Refuted;
+    Part { kind, lines }
 }

@@ -9,12 +9,12 @@ ghost use Rattle.what_if.specs.inside.SeasonParts.{AreTrueParts, IsInSeason};
 
 use crate::hints::Hints;
 use crate::task::solve_given;
-use branch_pool::Example;
+use answer_rows::{Solved, full_question};
 use branch_rules::ZoneSolver;
 use league_core::{Claim, OutOfMemory, Question};
 use score_box::Played;
 use std::alloc::Global;
-use verdict_run::{Solved, full_question};
+use tree_arena::Example;
 
 /// What is known of a question in the season.
 #[derive(Drop)]

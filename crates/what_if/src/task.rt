@@ -10,13 +10,12 @@ ghost use Rattle.what_if.specs.Bases.{is_base_of};
 ghost use Rattle.what_if.specs.inside.Tasks.{IsSolvedGiven, IsTask, WorksTask};
 
 use crate::hints::Hints;
-use branch_pool::Example;
+use answer_rows::Solved;
 use branch_rules::ZoneSolver;
 use league_core::{Literal, OutOfMemory, Question};
 use reason_core::{Finding, Solver};
 use std::alloc::Global;
-use tree_arena::Tree;
-use verdict_run::Solved;
+use tree_arena::{Example, Tree};
 
 /// How far a question is taken apart, and how many units that took.
 #[derive(Drop)]

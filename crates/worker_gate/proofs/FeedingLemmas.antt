@@ -16,7 +16,7 @@ use Rattle.result_log.specs.declared.fault.FeedStop.{FeedStop}
 use Rattle.result_log.specs.Feeds.{entry_in, line_as}
 use Rattle.result_log.specs.inside.Readings.{IsParsedThere, answer_as, live_as}
 use Rattle.fixture_sheet.specs.LastReads.{ReadsOnWay}
-use Rattle.result_log.specs.inside.FeedParts.{LineEntry, LiveReading}
+use Rattle.result_log.specs.inside.FeedParts.{LineEntry, LiveReading, entry_after}
 use Rattle.result_log.specs.inside.Calls.{CountsEntry, MovesToEntry, PassesToEntry, ReadsEntry}
 use Rattle.result_log.specs.inside.Calls.{entry_answer_after}
 use Rattle.result_log.specs.inside.LastReads.{GivesEvents, StopsAtClose, StopsAtEntry}
@@ -76,18 +76,18 @@ reported-of-sheet own sheet log season events same reported =
 -- ---- a round of entries
 
 -- what is said of a round of them, whatever records tell, holds of it
-pub as-rounds : (IsSaid : LiveReading → Result Entry FeedStop → Type 0) (sheet : Sheet)
-    (close last : Result Entry FeedStop) → close ≡ answer_as (λ told. told) last
+pub as-rounds : (proofs : Bool) (IsSaid : LiveReading → Result Entry FeedStop → Type 0)
+    (sheet : Sheet) (close last : Result Entry FeedStop) → close ≡ answer_as (λ told. told) last
     → IsSaid
-    (live_as (λ told. told) (λ s season events. entry_of s season events false) sheet)
+    (live_as (λ told. told) (λ s season events. entry_of s season events proofs) sheet)
     (answer_as (λ told. told) last)
-    → IsSaid (live_entry sheet) close
-as-rounds IsSaid sheet close last is said =
-    let same : live_as (λ told. told) (λ s season events. entry_of s season events false) sheet
-    ≡ live_entry sheet =
-    fun_ext (λ log. entries-same (entry_of sheet (season_after sheet log) (epoch_of log) false)) in
+    → IsSaid (entry_after sheet proofs) close
+as-rounds proofs IsSaid sheet close last is said =
+    let same : live_as (λ told. told) (λ s season events. entry_of s season events proofs) sheet
+    ≡ entry_after sheet proofs =
+    fun_ext (λ log. entries-same (entry_of sheet (season_after sheet log) (epoch_of log) proofs)) in
     let P : LiveReading → Type 0 = λ live. IsSaid live (answer_as (λ told. told) last) in
-    subst (IsSaid (live_entry sheet)) (sym is) (subst P same said)
+    subst (IsSaid (entry_after sheet proofs)) (sym is) (subst P same said)
 
 -- no proofs follow a live feed
 pub no-proofs : (sheet : Sheet) (season : Results) (log : List Event) (text : List ℕ)

@@ -9,6 +9,7 @@ ghost use Rattle.result_log.specs.inside.LastReads.{GivesEvents, StopsAtClose};
 ghost use Rattle.result_log.specs.inside.Readings.{IsParsedThere, answer_as, live_as};
 ghost use Rattle.result_log.specs.inside.Rounds.{BreaksOff, EndsRound, spot_of};
 ghost use Rattle.worker_gate.specs.inside.Feeding.{ReadsNext};
+ghost use Rattle.worker_gate.specs.inside.Reports.{ReportsTo};
 ghost use Rattle.worker_gate.specs.inside.Rounds.{IsNoEvent, close_of};
 
 use crate::round::RoundEnd;
@@ -44,6 +45,7 @@ pub fn read_parsed<R: Reading, S: Source>(
     ensures season { IfOk result (λ round.
         round.pool.season ≡ season_after round.pool.sheet round.pool.log) }
     ensures home { IfOk result (λ round. out_count round.pool.loans ≡ out_count pool.loans) }
+    ensures reported { IfOk result (λ round. ReportsTo pool round.pool) }
 
     // The log afterwards is the log before and the events that the lines passed tell.
     ensures ends { IfOk result (λ round. EndsRound
@@ -105,6 +107,7 @@ fn feed_parsed<R: Reading, S: Source>(
     ensures sheet { pool.new.sheet ≡ pool.old.sheet }
     ensures questions { pool.new.questions ≡ pool.old.questions }
     ensures home { out_count pool.new.loans ≡ out_count pool.old.loans }
+    ensures reported { IfOk result (λ last. ReportsTo pool.old pool.new) }
     ensures ends { IfOk result (λ last. EndsRound
         (live_as R.entry (R.tells reading.now) pool.old.sheet) pool.old.log pool.new.log
         (spot_of reader.old (S.left source.old) (S.ended source.old) (S.faults source.old))

@@ -6,6 +6,7 @@ ghost use Rattle.branch_pool.specs.inside.States.{out_count};
 ghost use Rattle.fixture_sheet.specs.LastReads.{ReadsOnWay};
 ghost use Rattle.result_log.specs.inside.LastReads.{GivesEvents, StopsAtClose};
 ghost use Rattle.result_log.specs.inside.Rounds.{BreaksOff, EndsRound, live_entry, spot_of};
+ghost use Rattle.worker_gate.specs.inside.Reports.{ReportsTo};
 ghost use Rattle.worker_gate.specs.inside.Rounds.{close_of};
 
 use crate::parsed_round::{ParsedRound, end_of, read_parsed};
@@ -32,6 +33,7 @@ pub fn read_round<S: Source>(
     ensures season { IfOk result (λ round.
         round.pool.season ≡ season_after round.pool.sheet round.pool.log) }
     ensures home { IfOk result (λ round. out_count round.pool.loans ≡ out_count pool.loans) }
+    ensures reported { IfOk result (λ round. ReportsTo pool round.pool) }
 
     // The log afterwards is the log before and the events that the lines passed tell.
     ensures ends { IfOk result (λ round. EndsRound (live_entry pool.sheet) pool.log round.pool.log

@@ -15,7 +15,7 @@ use Rattle.league_core.specs.search.Options.{has_finish}
 use Rattle.league_core.specs.search.Trees.{Tree, is_refuted}
 use Rattle.reason_core.specs.declared.finding.Finding.{Finding}
 use Rattle.tree_arena.specs.inside.Calls.{IsFirstLent}
-use Rattle.branch_pool.specs.declared.question_state.Example.{Example}
+use Rattle.tree_arena.specs.declared.example.Example.{Example}
 use Rattle.branch_pool.specs.declared.discarded.Discarded.{Discarded}
 use Rattle.branch_pool.specs.declared.question_state.QuestionState.{QuestionState}
 use Rattle.branch_pool.specs.declared.ticket.Answer.{Answer}

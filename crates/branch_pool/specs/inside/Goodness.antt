@@ -7,7 +7,6 @@ use Rattle.std.specs.List.{slice_get}
 use Rattle.league_core.specs.declared.sheet.Sheet.{Sheet}
 use Rattle.league_core.specs.declared.question.Question.{Question}
 use Rattle.league_core.specs.declared.zone.Literal.{Literal}
-use Rattle.league_core.specs.declared.tree.TreeNode.{TreeNode}
 use Rattle.league_core.specs.game.Limits.{most_events}
 use Rattle.league_core.specs.game.Sheets.{IsWithinLimits}
 use Rattle.league_core.specs.game.Results.{Results}
@@ -16,22 +15,15 @@ use Rattle.league_core.specs.game.Questions.{IsExample, IsQuestionOf}
 use Rattle.league_core.specs.search.Options.{has_finish}
 use Rattle.league_core.specs.search.Trees.{NodesMeet, IsCover, zones_of, new_count, node_count}
 use Rattle.league_core.specs.inside.Lending.{lent_count, lent_zones}
-use Rattle.league_core.specs.search.Splits.{IsProperNode, IsReasonTrue, IsUnitIfNew, AreReasonsTrue}
-use Rattle.branch_pool.specs.declared.question_state.Example.{Example}
+use Rattle.league_core.specs.search.Splits.{IsProperNode, IsUnitIfNew, AreReasonsTrue}
+use Rattle.tree_arena.specs.declared.example.Example.{Example}
 use Rattle.branch_pool.specs.declared.question_state.QuestionState.{QuestionState}
 use Rattle.branch_pool.specs.declared.question_state.Loan.{Loan}
 use Rattle.branch_pool.specs.inside.States.{PoolView, present_epoch, loan_at, most_questions}
-use Rattle.tree_reuse.specs.inside.Retargets.{most_kept}
+use Rattle.tree_reuse.specs.Retargets.{most_kept}
+use Rattle.tree_arena.specs.inside.GoodNodes.{IsGoodNode}
 
 -- ---- what the type keeps
-
--- what holds of a node in its zone: a split is proper, a refuted leaf's reason holds, and a new
--- node is a unit of work
-pub record IsGoodNode (sheet : Sheet) (season : Results) (question : Question)
-    (zone : List Literal) (node : TreeNode) : Type 0 where
-  pub proper : IsProperNode sheet season question zone node
-  pub refuted : IsReasonTrue sheet season question zone node
-  pub unit : IsUnitIfNew sheet season question zone node
 
 -- what is kept as an example is one
 abbrev pub IsExampleOf : Sheet → Results → Question → Example → Type 0

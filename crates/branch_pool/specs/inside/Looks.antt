@@ -2,7 +2,7 @@
 use Rattle.std.specs.Prelude.{List, ℕ, Option, Some, None}
 use Rattle.std.specs.Borrow.{Bor}
 use Rattle.league_core.specs.game.Results.{Results}
-use Rattle.branch_pool.specs.declared.question_state.Example.{Example}
+use Rattle.tree_arena.specs.declared.example.Example.{Example}
 
 -- the example that two borrowed parts are of
 abbrev pub seen_example : Option (Bor Results × Bor (List ℕ)) → Option Example

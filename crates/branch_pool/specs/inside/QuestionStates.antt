@@ -12,7 +12,7 @@ use Rattle.reason_core.specs.declared.finding.Finding.{Finding}
 use Rattle.reason_core.specs.inside.Findings.{IsTrueFinding}
 use Rattle.league_core.specs.game.Results.{Results}
 use Rattle.tree_arena.specs.inside.Calls.{AreTestsOf, IsFirstLent, most_nodes}
-use Rattle.tree_reuse.specs.inside.Retargets.{retargeted}
+use Rattle.tree_reuse.specs.Retargets.{retargeted}
 use Rattle.branch_pool.specs.declared.question_state.QuestionState.{QuestionState}
 use Rattle.branch_pool.specs.declared.question_state.Loan.{Loan}
 use Rattle.branch_pool.specs.inside.Steps.{seat_lent, seat_after}

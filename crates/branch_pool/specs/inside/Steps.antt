@@ -17,9 +17,9 @@ use Rattle.reason_core.specs.declared.done.Done.{Done}
 use Rattle.reason_core.specs.declared.finding.Finding.{Finding}
 use Rattle.reason_core.specs.declared.finding.Finding.TheVariants.{Refuted, Split, Won}
 use Rattle.reason_core.specs.inside.Dones.{IsFor, IsTrueDone, finding_of}
-use Rattle.tree_reuse.specs.inside.Asked.{IsAskedTree}
-use Rattle.tree_reuse.specs.inside.Retargets.{retargeted}
-use Rattle.branch_pool.specs.declared.question_state.Example.{Example}
+use Rattle.tree_reuse.specs.Asked.{IsAskedTree}
+use Rattle.tree_reuse.specs.Retargets.{retargeted}
+use Rattle.tree_arena.specs.declared.example.Example.{Example}
 use Rattle.branch_pool.specs.declared.question_state.QuestionState.{QuestionState}
 use Rattle.branch_pool.specs.declared.question_state.Loan.{Loan}
 use Rattle.branch_pool.specs.declared.ticket.Ticket.{Ticket}

@@ -8,13 +8,13 @@ use Rattle.league_core.specs.game.Questions.{full_question}
 use Rattle.cert_text.specs.declared.proof_line.ProofLine.{ProofLine}
 use Rattle.cert_text.specs.TreeLines.{ShowsRefuted, ShowsSpent, with_tree_head, with_spent_head}
 use Rattle.cert_text.specs.ExampleLines.{IsExampleInLines}
-use Rattle.cert_check.specs.declared.token.Token.{Token}
-use Rattle.cert_check.specs.declared.token.Token.TheVariants.{Row, Proof}
+use Rattle.line_tokens.specs.declared.token.Token.{Token}
+use Rattle.line_tokens.specs.declared.token.Token.TheVariants.{Row, Proof}
 use Rattle.cert_check.specs.declared.expected.RowWord.{RowWord}
 use Rattle.cert_check.specs.declared.expected.RowWord.TheVariants.{Clinched, Lost, Possible}
 use Rattle.cert_check.specs.declared.expected.RowWord.TheVariants.{Unsettled}
 use Rattle.cert_check.specs.ExpectedItems.{Basis, Expected, verdict_row, ask_fields, verdict_fields}
-use Rattle.cert_check.specs.ExpectedItems.{name_of_club}
+use Rattle.line_tokens.specs.LineRanges.{name_of_club}
 use Rattle.cert_check.specs.Machine.{ending_of, whole_at, rows_of, part_of_ask}
 use Rattle.cert_check.specs.inside.Calls.{unsettled_in}
 

@@ -10,7 +10,7 @@ use Rattle.league_core.specs.declared.sheet.Sheet.{Sheet}
 use Rattle.league_core.specs.game.Results.{Results}
 use Rattle.league_core.specs.game.Seasons.{IsLeague}
 use Rattle.league_core.specs.inside.Pending.{pending_of}
-use Rattle.cert_check.specs.declared.token.Token.{Token}
+use Rattle.line_tokens.specs.declared.token.Token.{Token}
 use Rattle.cert_check.specs.declared.stop.Accepted.{Accepted}
 use Rattle.cert_check.specs.declared.stop.CheckStop.{CheckStop}
 use Rattle.cert_check.specs.declared.stop.CheckStop.TheVariants as stop
@@ -19,16 +19,15 @@ use Rattle.cert_check.specs.declared.stop.CheckStopAt.TheVariants as halt
 use Rattle.cert_check.specs.declared.expected.RowWord.{RowWord}
 use Rattle.cert_check.specs.declared.expected.RowWord.TheVariants.{Clinched, Lost, Possible}
 use Rattle.cert_check.specs.declared.expected.RowWord.TheVariants.{Unsettled}
-use Rattle.cert_check.specs.declared.expected.TreeKind.{TreeKind}
-use Rattle.cert_check.specs.Tokens.{counts, counted_lines}
+use Rattle.line_tokens.specs.Tokens.{counts, counted_lines}
 use Rattle.cert_check.specs.LineLists.{NumberedLine, tokens_of, line_number_at}
-use Rattle.cert_check.specs.declared.token.Token.TheVariants.{Blank, Row, Proof, Unknown}
+use Rattle.line_tokens.specs.declared.token.Token.TheVariants.{Blank, Row, Proof, Unknown}
 use Rattle.cert_check.specs.declared.item.PartRead.{PartRead}
 use Rattle.cert_check.specs.declared.tree.TreeSpec.{TreeSpec}
 use Rattle.cert_check.specs.declared.tree.Walk.{Walk}
 use Rattle.cert_check.specs.ExpectedItems.{Basis, Expected, verdict_row, nodes, dues_of_word, Next}
 use Rattle.cert_check.specs.ExpectedItems.{bad, go}
-use Rattle.cert_check.specs.ExpectedItems.{node_in, after_node, head_in, scores_due, finish_with}
+use Rattle.cert_check.specs.ExpectedItems.{after_node, head_in, scores_due, finish_with}
 use Rattle.cert_check.specs.declared.expected.Head.{Head}
 use Rattle.league_core.specs.declared.question.Claim.{Claim}
 use Rattle.league_core.specs.declared.season.Score.{Score}
@@ -147,13 +146,6 @@ abbrev pub after_walked : Basis → TreeSpec → Walk → TreeNode → Next
 after_walked basis wanted walk node =
     after_node basis wanted.kind wanted.question walk.path.zone (pending_of walk.path.zone)
     walk.tally node
-
--- the node that a line stands for, if it is a proof line that stands for one
-abbrev pub node_of_token : TreeKind → Token → Option TreeNode
-node_of_token kind Blank = None
-node_of_token kind (Row fields) = None
-node_of_token kind (Proof line) = node_in kind line
-node_of_token kind Unknown = None
 
 -- what a call says of a node: true if it ends its tree, false if nodes are due after it
 abbrev pub NodeSays : Next → ℕ → Expected → Result Bool CheckStopAt → Type 0

@@ -20,19 +20,21 @@ use Rattle.cert_text.specs.declared.proof_line.ProofLine.{ProofLine}
 use Rattle.cert_text.specs.declared.proof_line.ProofLine.TheVariants as line
 use Rattle.cert_text.specs.TreeLines.{plain_line, marked_line, is_test_for}
 use Rattle.cert_text.specs.ExampleLines.{score_lines, lots_line}
-use Rattle.cert_check.specs.declared.token.Token.{Token}
-use Rattle.cert_check.specs.declared.token.Token.TheVariants.{Row, Proof}
+use Rattle.line_tokens.specs.declared.token.Token.{Token}
+use Rattle.line_tokens.specs.declared.token.Token.TheVariants.{Row, Proof}
 use Rattle.cert_check.specs.declared.expected.RowWord.{RowWord}
 use Rattle.cert_check.specs.declared.expected.RowWord.TheVariants.{Clinched, Lost, Possible}
 use Rattle.cert_check.specs.declared.expected.RowWord.TheVariants.{Unsettled}
-use Rattle.cert_check.specs.declared.expected.TreeKind.{TreeKind}
-use Rattle.cert_check.specs.declared.expected.TreeKind.TheVariants.{Refutation, Spent}
+use Rattle.line_tokens.specs.declared.tree_line.TreeKind.{TreeKind}
+use Rattle.line_tokens.specs.declared.tree_line.TreeKind.TheVariants.{Refutation, Spent}
 use Rattle.cert_check.specs.declared.expected.Tally.{Tally}
 use Rattle.cert_check.specs.ExpectedItems.{Basis, Expected, ask_row, verdict_row, tree_head}
 use Rattle.cert_check.specs.ExpectedItems.{spent_head}
 use Rattle.cert_check.specs.ExpectedItems.{finish_head, both_parts, one_part, nodes, score, lots}
-use Rattle.cert_check.specs.ExpectedItems.{ask_fields, verdict_fields, name_of_club}
-use Rattle.cert_check.specs.ExpectedItems.{is_reason_for, is_tally_whole, finish_with}
+use Rattle.cert_check.specs.ExpectedItems.{ask_fields, verdict_fields}
+use Rattle.line_tokens.specs.LineRanges.{name_of_club}
+use Rattle.line_tokens.specs.LineRanges.{is_reason_for}
+use Rattle.cert_check.specs.ExpectedItems.{is_tally_whole, finish_with}
 
 -- ---- trees
 

@@ -3,8 +3,8 @@
 use Rattle.std.specs.Prelude.{◌≡◌, ◌↔◌, ◌≤◌, ◌<◌, ℕ, ◌+◌, true, false, IsTrue, List, [], ◌∷◌}
 use Rattle.std.specs.Prelude.{◌++◌, length}
 use Rattle.std.specs.List.{list_all}
-use Rattle.cert_check.specs.declared.token.Token.{Token}
-use Rattle.cert_check.specs.Tokens.{counts, counted_lines}
+use Rattle.line_tokens.specs.declared.token.Token.{Token}
+use Rattle.line_tokens.specs.Tokens.{counts, counted_lines}
 use Rattle.cert_check.specs.ExpectedItems.{Basis, Expected, go, after}
 use Rattle.cert_check.specs.Machine.{ending_of, whole_at, bad_line, no_proof, short, with_unsettled}
 use Rattle.cert_check.specs.inside.Grammar.{AreParts}

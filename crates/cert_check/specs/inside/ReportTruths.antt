@@ -7,7 +7,7 @@ use Rattle.fixture_sheet.specs.Sheets.{sheet_reading_of}
 use Rattle.result_log.specs.declared.entry.Entry.{Entry}
 use Rattle.result_log.specs.declared.entry.Entry.TheVariants.{Change, Ask, Proofs, End}
 use Rattle.result_log.specs.Feeds.{Feed, feed_of}
-use Rattle.cert_check.specs.Tokens.{counted_lines}
+use Rattle.line_tokens.specs.Tokens.{counted_lines}
 use Rattle.cert_check.specs.LineLists.{tokens_of}
 use Rattle.cert_check.specs.Machine.{basis_of}
 use Rattle.cert_check.specs.inside.Calls.{SaysTruly}

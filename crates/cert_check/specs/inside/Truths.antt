@@ -1,14 +1,14 @@
 -- What the rows of a report mean, and that those of an accepted part are true of the season.
 use Rattle.std.specs.Prelude.{◌≡◌, ℕ, true, List, [], ◌∷◌, ◌++◌}
 use Rattle.league_core.specs.game.Verdicts.{IsClinched, IsLost, IsPossible}
-use Rattle.cert_check.specs.declared.token.Token.{Token}
-use Rattle.cert_check.specs.declared.token.Token.TheVariants.{Row}
+use Rattle.line_tokens.specs.declared.token.Token.{Token}
+use Rattle.line_tokens.specs.declared.token.Token.TheVariants.{Row}
 use Rattle.cert_check.specs.declared.expected.RowWord.{RowWord}
 use Rattle.cert_check.specs.declared.expected.RowWord.TheVariants.{Clinched, Lost, Possible}
 use Rattle.cert_check.specs.declared.expected.RowWord.TheVariants.{Unsettled}
 use Rattle.cert_check.specs.ExpectedItems.{Basis, Expected, ask_row, verdict_row, ask_fields}
 use Rattle.cert_check.specs.ExpectedItems.{verdict_fields}
-use Rattle.cert_check.specs.ExpectedItems.{name_of_club}
+use Rattle.line_tokens.specs.LineRanges.{name_of_club}
 use Rattle.cert_check.specs.Machine.{part_of_ask}
 use Rattle.cert_check.specs.inside.Grammar.{AreParts}
 

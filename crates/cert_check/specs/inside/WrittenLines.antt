@@ -5,8 +5,8 @@ use Rattle.cert_text.specs.Ranges.{is_in_range}
 use Rattle.cert_text.specs.inside.Widths.{is_line_kept}
 use Rattle.cert_text.specs.Lines.{text_of_proof_line}
 use Rattle.cert_text.specs.Forms.{line_in}
-use Rattle.cert_check.specs.declared.token.Token.TheVariants.{Proof}
-use Rattle.cert_check.specs.Tokens.{token_of}
+use Rattle.line_tokens.specs.declared.token.Token.TheVariants.{Proof}
+use Rattle.line_tokens.specs.Tokens.{token_of}
 
 -- a line can be written: its numbers are such as its form has, and its sets such as a type keeps
 abbrev pub IsWritable : ProofLine → Type 0

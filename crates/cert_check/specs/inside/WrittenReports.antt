@@ -6,8 +6,8 @@ use Rattle.port_core.specs.Lines.{lines_of}
 use Rattle.port_core.specs.Contents.{Position, contents_from}
 use Rattle.cert_text.specs.Lines.{text_of_proof_line}
 use Rattle.cert_text.specs.Rows.{text_of_row}
-use Rattle.cert_check.specs.declared.token.Token.{Token}
-use Rattle.cert_check.specs.declared.token.Token.TheVariants.{Blank, Row, Proof, Unknown}
+use Rattle.line_tokens.specs.declared.token.Token.{Token}
+use Rattle.line_tokens.specs.declared.token.Token.TheVariants.{Blank, Row, Proof, Unknown}
 use Rattle.cert_check.specs.declared.expected.RowWord.{RowWord}
 use Rattle.cert_check.specs.ExpectedItems.{ask_fields, verdict_fields}
 use Rattle.cert_check.specs.LineLists.{tokens_of}

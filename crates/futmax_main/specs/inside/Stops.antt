@@ -1,21 +1,24 @@
--- Why an input is read no further, as one plain word for the sheet and the feed, and how that ends
--- a run: what it leaves of the sink's bytes, and of its count of faults.
-use Rattle.std.specs.Prelude.{◌≡◌, ℕ, List, Option}
+-- Why an input is read no further, as one plain word for the sheet, the feed and a saved text, and
+-- how that ends a run: what it leaves of the sink's bytes, and of its count of faults.
+use Rattle.std.specs.Prelude.{◌≡◌, ◌⊎◌, ℕ, List, Option}
 use Rattle.std.specs.Io.KnownBytes.{append_known}
 use Rattle.port_core.specs.Ports.{AppendsPrefix, Rose}
+use Rattle.port_core.specs.Contents.{Position, number_at}
 use Rattle.port_core.specs.declared.line.ReadStop.{ReadStop}
 use Rattle.port_core.specs.declared.line.ReadStop.TheVariants as read_stop
 use Rattle.fixture_sheet.specs.declared.fault.SheetStop.{SheetStop}
 use Rattle.fixture_sheet.specs.declared.fault.SheetStop.TheVariants as sheet_stop
 use Rattle.result_log.specs.declared.fault.FeedStop.{FeedStop}
 use Rattle.result_log.specs.declared.fault.FeedStop.TheVariants as feed_stop
+use Rattle.pool_save.specs.declared.stop.SaveStop.{SaveStop}
+use Rattle.pool_save.specs.declared.stop.SaveStop.TheVariants as save_stop
 use Rattle.futmax_main.specs.declared.status.Status.{Status}
 use Rattle.futmax_main.specs.declared.status.Status.TheVariants as status
 use Rattle.futmax_main.specs.declared.run_end.Cause.TheVariants as cause
 use Rattle.futmax_main.specs.declared.run_end.Fault.{Fault}
 use Rattle.futmax_main.specs.declared.refuse.InputStop.{InputStop}
 use Rattle.futmax_main.specs.declared.refuse.InputStop.TheVariants.{Refused, ReadFault, OutOfMemory}
-use Rattle.futmax_main.specs.Courses.{input_fault, line_fault}
+use Rattle.futmax_main.specs.Courses.{input_fault, line_fault, save_fault}
 use Rattle.futmax_main.specs.Rows.{fault_row}
 use Rattle.futmax_main.specs.Texts.{status_of_cause}
 
@@ -40,6 +43,17 @@ stop_of_feed (feed_stop.Fault number fault) =
     Refused (record { number = number; cause = cause.Feed fault })
 stop_of_feed (feed_stop.Read stop) = stop_of_read stop
 stop_of_feed feed_stop.OutOfMemory = OutOfMemory
+
+-- no saved text is given
+abbrev pub stop_of_save : SaveStop → InputStop
+stop_of_save (save_stop.BadSave number) = Refused (save_fault number)
+stop_of_save (save_stop.Read stop) = stop_of_read stop
+stop_of_save save_stop.OutOfMemory = OutOfMemory
+
+-- the input ends at this position, before a saved text that has to come; or memory ran out
+abbrev pub EndsBefore : Position → InputStop → Type 0
+EndsBefore position stop =
+    (stop ≡ Refused (save_fault (number_at position))) ⊎ (stop ≡ OutOfMemory)
 
 -- ---- how that ends a run
 

@@ -10,7 +10,7 @@ use Rattle.league_core.specs.search.Trees.{new_count, has_open, is_refuted}
 use Rattle.league_core.specs.inside.Leaves.{Leaf, leaves_from, is_open_leaf, is_lent_under}
 use Rattle.league_core.specs.inside.Leaves.{is_refuted_leaf}
 use Rattle.league_core.specs.inside.Lending.{lent_zones}
-use Rattle.league_core.specs.inside.TreeLists.{tree_of}
+use Rattle.league_core.specs.search.TreeLists.{tree_of}
 
 -- the zones of a tree are those of its leaves
 abbrev pub ZonesAreOfLeaves : Type 0

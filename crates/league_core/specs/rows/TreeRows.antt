@@ -11,7 +11,7 @@ use Rattle.league_core.specs.search.Trees.{zones_of, preorder, node_count, new_c
 use Rattle.league_core.specs.search.Trees.{is_refuted}
 use Rattle.league_core.specs.inside.Leaves.{Leaf, leaves_of}
 use Rattle.league_core.specs.inside.Lending.{lent_count, times_lent, lent_zones, put, all_opened}
-use Rattle.league_core.specs.inside.TreeLists.{tree_of}
+use Rattle.league_core.specs.search.TreeLists.{tree_of}
 
 -- the test is true, the test is false
 abbrev yes : Test → Literal

@@ -1,5 +1,5 @@
 -- What the calls promise, by what they return.
-use Rattle.std.specs.Prelude.{◌≡◌, ℕ, ◌+◌, ◌<◌, ◌≤◌, Bool, true, false, List, ◌++◌, Option}
+use Rattle.std.specs.Prelude.{◌≡◌, ℕ, ◌+◌, ◌<◌, ◌≤◌, Bool, true, false, List, Option}
 use Rattle.std.specs.Prelude.{option_map}
 use Rattle.std.specs.Prelude.{Result, Ok, Err, length}
 use Rattle.league_core.specs.declared.sheet.Sheet.{Sheet}
@@ -17,8 +17,8 @@ use Rattle.fixture_sheet.specs.LastReads.{ReadsOnWay}
 use Rattle.fixture_sheet.specs.inside.Calls.{TakesLines, refused_before}
 use Rattle.pool_save.specs.declared.stop.SaveStop.{SaveStop}
 use Rattle.pool_save.specs.declared.stop.SaveStop.TheVariants.{BadSave, Read, OutOfMemory}
-use Rattle.pool_save.specs.inside.SavedTexts.{AreSavedTrees}
-use Rattle.pool_save.specs.inside.SavedReadings.{SaveState, nothing_saved, saved_reading_of}
+use Rattle.pool_save.specs.SavedTexts.{AreSavedTrees}
+use Rattle.pool_save.specs.SavedReadings.{SaveState, nothing_saved, saved_reading_of}
 use Rattle.pool_save.specs.inside.SoFar.{IsSaveState}
 
 -- ---- what is read
@@ -60,7 +60,16 @@ abbrev pub given_as : {V : Type 0} → Result V SaveStop → (V → List (Option
 given_as (Ok value) listed = Ok (listed value)
 given_as (Err stop) listed = Err stop
 
--- ---- where the reader is left
+-- ---- the lines passed, and where the reader is left
+
+-- the reader's answer that a call's answer came of: the line passed last, the input's end, or a
+-- stop. Memory may run out before any line: then the answer is one that gives no line
+abbrev pub saved_answer_after : {A : Type 0} → LineReaderView → Result A SaveStop
+    → Result Line ReadStop
+saved_answer_after new (Ok value) = Ok (Text new.position.lines)
+saved_answer_after new (Err (BadSave number)) = Ok (refused_before new.position number)
+saved_answer_after new (Err (Read stop)) = Err stop
+saved_answer_after new (Err OutOfMemory) = Err ReadFault
 
 -- after the line `saved_end` or the bad line; at the input's end; or at a stop
 abbrev pub LeavesSaved : {A : Type 0} → LineReaderView → Option (List ℕ) → Result A SaveStop

@@ -1,21 +1,13 @@
 -- Questions that are nearly known: an example is kept, or each open leaf of the tree has a reason
 -- that holds there, and no more leaves are open than units are left. Work on such a question never
 -- spends its budget: so no saved tree is thrown away of which only its leaves were left to refute.
-use Rattle.std.specs.Prelude.{◌≡◌, ◌≢◌, ◌≤◌, ◌⊎◌, ℕ, ◌+◌, IsTrue, is_some, List, [], Option, Some}
+use Rattle.std.specs.Prelude.{◌≡◌, ◌≢◌, ◌⊎◌, ℕ, IsTrue, is_some, List, Option, Some}
 use Rattle.std.specs.Prelude.{None}
 use Rattle.std.specs.List.{slice_get}
 use Rattle.league_core.specs.declared.sheet.Sheet.{Sheet}
-use Rattle.league_core.specs.declared.question.Question.{Question}
-use Rattle.league_core.specs.declared.zone.Literal.{Literal}
-use Rattle.league_core.specs.declared.zone.Reason.{Reason}
-use Rattle.league_core.specs.declared.tree.TreeNode.{TreeNode}
-use Rattle.league_core.specs.declared.tree.TreeNode.TheVariants.{Split, Open, Lent, Refuted}
 use Rattle.league_core.specs.game.Results.{Results}
-use Rattle.league_core.specs.search.Reasons.{has_reason}
-use Rattle.league_core.specs.search.Trees.{Tree, open_leaf, lent_leaf, refuted_leaf, branch}
-use Rattle.league_core.specs.search.Trees.{NodesMeet}
+use Rattle.league_core.specs.search.Trees.{Tree}
 use Rattle.league_core.specs.inside.Lending.{lent_count}
-use Rattle.tree_reuse.specs.inside.Retargets.{retargeted}
 use Rattle.branch_pool.specs.declared.question_state.QuestionState.{QuestionState}
 use Rattle.branch_pool.specs.declared.ticket.Answer.TheVariants as answer
 use Rattle.branch_pool.specs.inside.States.{PoolView, new_seat}
@@ -24,27 +16,7 @@ use Rattle.branch_pool.specs.inside.Runs.{WorksNext}
 use Rattle.branch_pool.specs.inside.Goodness.{IsSoundPool}
 use Rattle.verdict_run.specs.inside.Working.{WorksTo, FinishesWork, is_settled, is_known}
 use Rattle.pool_save.specs.inside.TakingUp.{TakesUp}
-
--- of an open leaf, that some reason holds in its zone; of any other node, nothing
-abbrev pub HasReasonIfOpen : Sheet → Results → Question → List Literal → TreeNode → Type 0
-HasReasonIfOpen sheet season question zone Open =
-    (reason : Reason) × IsTrue (has_reason sheet season question zone reason)
-HasReasonIfOpen sheet season question zone (Split test fresh) = Unit {0}
-HasReasonIfOpen sheet season question zone (Lent number) = Unit {0}
-HasReasonIfOpen sheet season question zone (Refuted reason fresh) = Unit {0}
-
--- how many leaves are open
-abbrev pub open_count : Tree → ℕ
-open_count open_leaf = 1
-open_count (lent_leaf number) = 0
-open_count (refuted_leaf reason fresh) = 0
-open_count (branch test fresh yes_half no_half) = open_count yes_half + open_count no_half
-
--- each open leaf has a reason, and there are no more of them than units are left
-pub record IsNearlyRefuted (sheet : Sheet) (season : Results) (question : Question) (units : ℕ)
-    (tree : Tree) : Type 0 where
-  pub reasons : NodesMeet (HasReasonIfOpen sheet season question) [] tree
-  pub few : units + open_count tree ≤ sheet.budget
+use Rattle.pool_save.specs.NearlyDone.{IsNearlyRefuted, IsNearlyDone}
 
 -- it is known, or nearly refuted
 abbrev pub IsNearlyKnown : Sheet → Results → QuestionState → Type 0
@@ -77,17 +49,6 @@ NearlyIsKnown =
     → lent_count seat.tree ≡ 0 → IsTrue (is_settled sheet seat) → IsTrue (is_known seat)
 
 -- ---- saved trees
-
--- the saved tree of a question; if it has none, it is one open leaf
-abbrev pub saved_tree : Option Tree → Tree
-saved_tree None = open_leaf
-saved_tree (Some tree) = tree
-
--- what the season leaves of the saved tree is nearly refuted, and no unit of the budget was used
-abbrev pub IsNearlyDone : Sheet → Results → Question → Option Tree → Type 0
-IsNearlyDone sheet season question saved =
-    IsNearlyRefuted sheet season question 0
-    (retargeted sheet season question (saved_tree saved))
 
 -- a question without a saved tree was not worked on before
 abbrev pub IsNewIfNone : QuestionState → Option Tree → Type 0

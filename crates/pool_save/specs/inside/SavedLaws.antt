@@ -6,13 +6,13 @@ use Rattle.league_core.specs.declared.question.Question.{Question}
 use Rattle.league_core.specs.game.Sheets.{IsWithinLimits, are_different}
 use Rattle.league_core.specs.search.Trees.{Tree}
 use Rattle.port_core.specs.Contents.{Contents, with_lines}
-use Rattle.cert_check.specs.declared.token.Token.{Token}
-use Rattle.cert_check.specs.declared.token.Token.TheVariants.{Row}
-use Rattle.cert_check.specs.Tokens.{token_of, counted_lines}
-use Rattle.verdict_run.specs.inside.AskedQuestions.{questions_of}
-use Rattle.pool_save.specs.inside.SavedTexts.{AreSavedTrees, saved_fields, saved_items_of}
-use Rattle.pool_save.specs.inside.SavedTexts.{end_fields}
-use Rattle.pool_save.specs.inside.SavedReadings.{is_row_of, nothing_saved, saved_reading_of}
+use Rattle.line_tokens.specs.declared.token.Token.{Token}
+use Rattle.line_tokens.specs.declared.token.Token.TheVariants.{Row}
+use Rattle.line_tokens.specs.Tokens.{token_of, counted_lines}
+use Rattle.answer_rows.specs.AskedQuestions.{questions_of}
+use Rattle.pool_save.specs.SavedTexts.{AreSavedTrees, saved_fields, saved_items_of}
+use Rattle.pool_save.specs.SavedTexts.{end_fields}
+use Rattle.pool_save.specs.SavedReadings.{is_row_of, nothing_saved, saved_reading_of}
 
 -- what numbered lines are, one by one
 abbrev pub tokens_of_lines : List (ℕ × List ℕ) → List Token
@@ -31,7 +31,7 @@ abbrev pub QuestionsHaveOwnRows : Type 0
 QuestionsHaveOwnRows =
     (sheet : Sheet) → IsWithinLimits sheet → HaveOwnRows sheet (questions_of sheet)
 
--- lines of which those that count are the items of these trees, and a line `saved_end` behind them,
+-- lines of which those that count are the items of these trees, and a line `saved_end` after them,
 -- are read as the trees, and nothing after them is read
 abbrev pub SavedTextsAreRead : Type 0
 SavedTextsAreRead =

@@ -10,11 +10,11 @@ use Rattle.league_core.specs.game.Limits.{set_width}
 use Rattle.league_core.specs.game.Sums.{has_club}
 use Rattle.league_core.specs.search.Zones.{is_marked}
 use Rattle.league_core.specs.search.Trees.{Tree, NodesMeet, preorder}
-use Rattle.league_core.specs.inside.TreeLists.{preorders}
+use Rattle.league_core.specs.search.TreeLists.{preorders}
 use Rattle.pool_save.specs.declared.so_far.Taken.{Taken}
 use Rattle.pool_save.specs.declared.so_far.Taken.TheVariants.{On, Whole, Bad}
-use Rattle.pool_save.specs.inside.SavedTexts.{IsSavedNode, IsSavedTree, AreFirstTreesOf}
-use Rattle.pool_save.specs.inside.SavedReadings.{SaveState, SaveStep, goes_on, whole, bad}
+use Rattle.pool_save.specs.SavedTexts.{IsSavedNode, IsSavedTree, AreFirstTreesOf}
+use Rattle.pool_save.specs.SavedReadings.{SaveState, SaveStep, goes_on, whole, bad}
 
 -- what a call made of a line, by what it returned and what it left
 abbrev pub save_step_of : SaveState → Taken → SaveStep

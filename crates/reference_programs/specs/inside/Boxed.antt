@@ -11,7 +11,7 @@ use Rattle.league_core.specs.inside.Lending.{lent_zones, put}
 use Rattle.league_core.specs.search.Zones.{is_test_of}
 use Rattle.league_core.specs.declared.tree.TreeNode.{TreeNode}
 use Rattle.league_core.specs.declared.tree.TreeNode.TheVariants as node
-use Rattle.league_core.specs.inside.TreeLists.{with_node}
+use Rattle.league_core.specs.search.TreeLists.{with_node}
 use Rattle.tree_arena.specs.inside.Calls.{IsFirstLent}
 use Rattle.reference_programs.specs.declared.boxed.Node.{Node}
 use Rattle.reference_programs.specs.declared.boxed.Node.TheVariants.{Open, Lent, Refuted, Split}

@@ -7,7 +7,7 @@ use Rattle.league_core.specs.game.Seasons.{unplayed_season}
 use Rattle.port_core.specs.Lines.{lines_of}
 use Rattle.port_core.specs.Contents.{Position, contents_from}
 use Rattle.result_log.specs.declared.entry.Entry.{Entry}
-use Rattle.cert_check.specs.declared.token.Token.{Token}
+use Rattle.line_tokens.specs.declared.token.Token.{Token}
 use Rattle.cert_check.specs.declared.outcome.CheckOutcome.TheVariants.{Accepted}
 use Rattle.cert_check.specs.Outcomes.{outcome_of_report}
 use Rattle.cert_check.specs.inside.WrittenReports.{AreRead, written}

@@ -1,7 +1,7 @@
 -- Whole sessions: what the mode `verdicts` with proofs writes for an input makes, with that input,
 -- a report that the mode `check` accepts.
 use Rattle.std.specs.Prelude.{◌≡◌, ◌≤◌, ℕ, ◌+◌, ◌*◌, true, ◌==◌, List, [], ◌∷◌, ◌++◌, length}
-use Rattle.std.specs.Prelude.{if◌then◌else◌, codes}
+use Rattle.std.specs.Prelude.{if◌then◌else◌, codes, None}
 use Rattle.port_core.specs.Lines.{line_feed}
 use Rattle.port_core.specs.Contents.{contents_of, input_limit}
 use Rattle.league_core.specs.declared.sheet.Sheet.{Sheet}
@@ -11,7 +11,7 @@ use Rattle.answer_rows.specs.Parts.{IsMadeOf}
 use Rattle.command_words.specs.declared.command.Mode.TheVariants.{Verdicts}
 use Rattle.futmax_main.specs.declared.status.Status.TheVariants.{Done}
 use Rattle.futmax_main.specs.Plays.{Played}
-use Rattle.futmax_main.specs.Answers.{IsItemText}
+use Rattle.pool_save.specs.SavedAnswers.{IsItemText}
 use Rattle.futmax_main.specs.Courses.{course_of}
 use Rattle.futmax_main.specs.Checks.{IsCheckText, accepted_row}
 use Rattle.futmax_main.specs.Texts.{AreAnswers}
@@ -36,7 +36,7 @@ rows_of_asks (asked ∷ asks) =
 
 -- how many of the items that a text is made of are unsettled
 abbrev pub unsettled_made : (sheet : Sheet) (season : Results) (rows : List AnswerRow)
-    (text : List ℕ) → IsMadeOf (IsItemText true sheet season) rows text → ℕ
+    (text : List ℕ) → IsMadeOf (IsItemText true sheet season None) rows text → ℕ
 unsettled_made sheet season [] text made = 0
 unsettled_made sheet season (about ∷ rows) text made =
     unsettled_one made.3.0 + unsettled_made sheet season rows made.1 made.4
@@ -59,4 +59,4 @@ TextsAreAccepted =
     → length (input_with_answers input text) ≤ input_limit
     → let asks = (course_of (Verdicts true) (contents_of input)).asks in
     IsCheckText (input_with_answers input text) Done
-    (accepted_row (rows_of_asks asks) (unsettled_told asks told.0 told.1))
+    (accepted_row (rows_of_asks asks) (unsettled_told asks told.0 told.2))

@@ -7,7 +7,7 @@ use Rattle.league_core.specs.declared.zone.Literal.{Literal}
 use Rattle.league_core.specs.declared.tree.TreeNode.{TreeNode}
 use Rattle.league_core.specs.declared.tree.TreeNode.TheVariants.{Split, Open, Lent, Refuted}
 use Rattle.league_core.specs.search.Trees.{Tree, zones_from}
-use Rattle.league_core.specs.inside.TreeLists.{trees_of}
+use Rattle.league_core.specs.search.TreeLists.{trees_of}
 use Rattle.tree_arena.specs.declared.zones.Step.{Step}
 
 -- the test of a literal

@@ -1,7 +1,7 @@
 -- Why a list of nodes gives no tree.
 use Rattle.std.specs.Prelude.{◌≡◌, List, None}
 use Rattle.league_core.specs.declared.tree.TreeNode.{TreeNode}
-use Rattle.league_core.specs.inside.TreeLists.{tree_of}
+use Rattle.league_core.specs.search.TreeLists.{tree_of}
 use Rattle.tree_arena.specs.declared.stop.TreeStop.{TreeStop}
 use Rattle.tree_arena.specs.declared.stop.TreeStop.TheVariants.{NoTree, OutOfMemory}
 

@@ -12,14 +12,14 @@ use Rattle.league_core.specs.game.Results.{Results}
 use Rattle.league_core.specs.search.Zones.{is_test_of}
 use Rattle.league_core.specs.search.Reasons.{has_reason}
 use Rattle.league_core.specs.search.Trees.{Tree, preorder}
-use Rattle.league_core.specs.inside.TreeLists.{trees_of}
+use Rattle.league_core.specs.search.TreeLists.{trees_of}
 use Rattle.score_box.specs.inside.ZoneBoxViews.{ZoneBoxView}
 use Rattle.tree_reuse.specs.declared.halves.Halves.{Halves}
 use Rattle.tree_reuse.specs.declared.halves.Halves.TheVariants.{Both, YesAlone, NoAlone}
 use Rattle.tree_reuse.specs.declared.carry.Part.{Part}
 use Rattle.tree_reuse.specs.declared.carry.Part.TheVariants.{Dropped, Kept}
 use Rattle.tree_arena.specs.inside.Steps.{literal_of, zone_of_part}
-use Rattle.tree_reuse.specs.inside.Retargets.{halves_in, leaf_kept, retargeted_from}
+use Rattle.tree_reuse.specs.Retargets.{halves_in, leaf_kept, retargeted_from}
 
 -- the way after a part was taken up: that of its zone; a part that is dropped changes nothing
 abbrev pub path_after : List Literal → Part → List Literal

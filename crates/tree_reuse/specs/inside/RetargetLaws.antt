@@ -12,7 +12,7 @@ use Rattle.league_core.specs.search.Trees.{Tree, NodesMeet, node_count, new_coun
 use Rattle.league_core.specs.inside.Lending.{lent_count, lent_zones, times_lent}
 use Rattle.league_core.specs.search.Splits.{IsProperNode, IsReasonTrue}
 use Rattle.tree_arena.specs.inside.Calls.{AreTestsOf}
-use Rattle.tree_reuse.specs.inside.Retargets.{retargeted, most_kept}
+use Rattle.tree_reuse.specs.Retargets.{retargeted, most_kept}
 
 -- nothing is lent afterwards, under no number
 abbrev pub RetargetedTreesLendNothing : Type 0

@@ -9,7 +9,7 @@ use Rattle.league_core.specs.search.Trees.{is_refuted}
 use Rattle.cert_text.specs.declared.proof_line.ProofLine.{ProofLine}
 use Rattle.cert_text.specs.TreeLines.{plain_lines, marked_lines, with_tree_head, with_spent_head}
 use Rattle.cert_text.specs.ExampleLines.{example_lines}
-use Rattle.branch_pool.specs.declared.question_state.Example.{Example}
+use Rattle.tree_arena.specs.declared.example.Example.{Example}
 use Rattle.branch_pool.specs.declared.question_state.QuestionState.{QuestionState}
 use Rattle.branch_pool.specs.declared.ticket.Answer.TheVariants as answer
 use Rattle.branch_pool.specs.inside.States.{PoolView}
@@ -17,8 +17,8 @@ use Rattle.branch_pool.specs.inside.Calls.{answer_of}
 use Rattle.answer_rows.specs.declared.word.Word.{Word}
 use Rattle.answer_rows.specs.declared.word.Word.TheVariants.{Clinched, Lost, Possible, Unsettled}
 use Rattle.answer_rows.specs.declared.word.Verdict.{Verdict}
-use Rattle.verdict_run.specs.declared.part.Part.{Part}
-use Rattle.verdict_run.specs.declared.part.Known.TheVariants.{Refuted}
+use Rattle.answer_rows.specs.declared.part.Part.{Part}
+use Rattle.answer_rows.specs.declared.part.PartKind.TheVariants.{Refuted}
 use Rattle.answer_rows.specs.NewTrees.{is_all_new}
 use Rattle.answer_rows.specs.Items.{ShowsPart}
 
@@ -54,8 +54,8 @@ TellsSeat sheet season seat lines = TellsExample sheet season seat seat.example 
 pub record IsOfSeat (sheet : Sheet) (season : Results) (seat : QuestionState) (part : Part) : Type 0
   where
     pub refuted : answer_of sheet seat ≡ answer.Refuted
-        → (part.known ≡ Refuted) × (part.lines.items ≡ lines_of_refuted seat)
-    pub others : part.known ≢ Refuted → TellsSeat sheet season seat part.lines.items
+        → (part.kind ≡ Refuted) × (part.lines.items ≡ lines_of_refuted seat)
+    pub others : part.kind ≢ Refuted → TellsSeat sheet season seat part.lines.items
 
 -- the part of the question at a place comes from what is kept there
 abbrev pub IsOfPlace : PoolView → ℕ → Part → Type 0

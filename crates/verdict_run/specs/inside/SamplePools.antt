@@ -3,7 +3,7 @@ use Rattle.std.specs.Prelude.{◌≡◌, ℕ, List, []}
 use Rattle.league_core.specs.declared.season.Event.{Event}
 use Rattle.league_core.specs.game.Seasons.{season_after}
 use Rattle.branch_pool.specs.inside.States.{PoolView, out_count}
-use Rattle.verdict_run.specs.inside.AskedQuestions.{questions_of}
+use Rattle.answer_rows.specs.AskedQuestions.{questions_of}
 use Rattle.verdict_run.specs.Samples.{sample_sheet, sample_events}
 
 -- nothing was reported to the pool, and nothing is out

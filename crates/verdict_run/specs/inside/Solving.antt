@@ -5,8 +5,8 @@ use Rattle.league_core.specs.declared.question.Question.{Question}
 use Rattle.league_core.specs.game.Results.{Results}
 use Rattle.league_core.specs.game.Questions.{IsExample}
 use Rattle.cert_text.specs.TreeLines.{IsRefutationTree, IsFairSpentTree}
-use Rattle.verdict_run.specs.declared.fresh.Solved.{Solved}
-use Rattle.verdict_run.specs.declared.fresh.Solved.TheVariants.{Won, Refuted, Spent}
+use Rattle.answer_rows.specs.declared.solved.Solved.{Solved}
+use Rattle.answer_rows.specs.declared.solved.Solved.TheVariants.{Won, Refuted, Spent}
 use Rattle.answer_rows.specs.NewTrees.{is_all_new}
 
 -- an example; or a tree that refutes the question, all of it new; or one on which the whole budget

@@ -13,9 +13,9 @@ use Rattle.cert_text.specs.Ranges.{is_in_range}
 use Rattle.answer_rows.specs.declared.word.Verdict.{Verdict}
 use Rattle.answer_rows.specs.Items.{AnswerRow, answer_row, answer_rows_of}
 use Rattle.answer_rows.specs.inside.ItemRanges.{IsInRange}
-use Rattle.verdict_run.specs.declared.part.Part.{Part}
-use Rattle.verdict_run.specs.declared.part.Known.{Known}
-use Rattle.verdict_run.specs.declared.part.Known.TheVariants.{Won, Refuted, Spent}
+use Rattle.answer_rows.specs.declared.part.Part.{Part}
+use Rattle.answer_rows.specs.declared.part.PartKind.{PartKind}
+use Rattle.answer_rows.specs.declared.part.PartKind.TheVariants.{Won, Refuted, Spent}
 use Rattle.what_if.specs.Bases.{is_base_of}
 use Rattle.what_if.specs.Given.{ShowsPartGiven, IsShownGiven}
 
@@ -30,7 +30,7 @@ pub record IsOpenMatch (sheet : Sheet) (season : Results) (fixture : ℕ) : Type
   pub unplayed : slice_index_or season.scores fixture None ≡ None
 
 -- the lines show what is known of the question given the zone; that it holds nowhere there has none
-abbrev pub IsPartGiven : Sheet → Results → List Literal → Question → Known → List ProofLine
+abbrev pub IsPartGiven : Sheet → Results → List Literal → Question → PartKind → List ProofLine
     → Type 0
 IsPartGiven sheet season zone question Won lines =
     ShowsPartGiven sheet season zone question false lines
@@ -42,7 +42,7 @@ IsPartGiven sheet season zone question Spent lines =
 -- a part of an answer given the zone: its lines show it, and are in the ranges of their forms
 pub record IsAnswerPartGiven (sheet : Sheet) (season : Results) (zone : List Literal)
     (question : Question) (part : Part) : Type 0 where
-  pub shows : IsPartGiven sheet season zone question part.known part.lines.items
+  pub shows : IsPartGiven sheet season zone question part.kind part.lines.items
   pub in_range : IsTrue (list_all is_in_range part.lines.items)
 
 -- the verdict is right and shown given the zone, and in range

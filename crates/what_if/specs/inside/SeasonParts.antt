@@ -9,7 +9,7 @@ use Rattle.league_core.specs.game.Results.{Results}
 use Rattle.league_core.specs.game.Questions.{IsExample}
 use Rattle.league_core.specs.search.GivenVerdicts.{HoldsNowhereIn, IsExampleIn}
 use Rattle.league_core.specs.search.Zones.{are_literals_true}
-use Rattle.branch_pool.specs.declared.question_state.Example.{Example}
+use Rattle.tree_arena.specs.declared.example.Example.{Example}
 use Rattle.what_if.specs.declared.season_part.InSeason.{InSeason}
 use Rattle.what_if.specs.declared.season_part.InSeason.TheVariants.{Nowhere, Met, Open}
 use Rattle.what_if.specs.declared.season_part.SeasonPart.{SeasonPart}

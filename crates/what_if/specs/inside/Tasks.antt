@@ -7,11 +7,11 @@ use Rattle.league_core.specs.game.Results.{Results}
 use Rattle.league_core.specs.search.Trees.{NodesMeet, new_count, node_count}
 use Rattle.league_core.specs.inside.Lending.{lent_count}
 use Rattle.league_core.specs.search.GivenVerdicts.{HoldsNowhereIn, IsExampleIn}
-use Rattle.branch_pool.specs.declared.question_state.Example.{Example}
-use Rattle.branch_pool.specs.inside.Goodness.{IsGoodNode}
+use Rattle.tree_arena.specs.declared.example.Example.{Example}
+use Rattle.tree_arena.specs.inside.GoodNodes.{IsGoodNode}
 use Rattle.answer_rows.specs.NewTrees.{is_all_new}
-use Rattle.verdict_run.specs.declared.fresh.Solved.{Solved}
-use Rattle.verdict_run.specs.declared.fresh.Solved.TheVariants.{Won, Refuted, Spent}
+use Rattle.answer_rows.specs.declared.solved.Solved.{Solved}
+use Rattle.answer_rows.specs.declared.solved.Solved.TheVariants.{Won, Refuted, Spent}
 use Rattle.what_if.specs.declared.task.Task.{Task}
 use Rattle.what_if.specs.Given.{IsFairlySpentBelow}
 

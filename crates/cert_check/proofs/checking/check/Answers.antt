@@ -1,7 +1,7 @@
 use Rattle.std.proofs.Common.{subst, arith}
 use Rattle.std.proofs.lemmas.List.{length-map}
 use Rattle.cert_check.specs.declared.stop.CheckStopAt.{CheckStopAt}
-use Rattle.cert_check.specs.Tokens.{token_of}
+use Rattle.line_tokens.specs.Tokens.{token_of}
 use Rattle.cert_check.specs.LineLists.{NumberedLine, tokens_of}
 use Rattle.cert_check.specs.Machine.{part_of_ask, bad_line, no_proof, short}
 use Rattle.cert_check.specs.inside.Calls.{ReportView, AllHalt}

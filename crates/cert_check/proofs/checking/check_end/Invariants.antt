@@ -1,5 +1,5 @@
 use Rattle.std.proofs.Common.{◌≡◌, drop}
-use Rattle.cert_check.specs.Tokens.{counted_lines}
+use Rattle.line_tokens.specs.Tokens.{counted_lines}
 use Rattle.cert_check.specs.LineLists.{tokens_of}
 use Rattle.cert_check.proofs.checking.check_end.Given as goal
 

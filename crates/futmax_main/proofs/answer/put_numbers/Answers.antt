@@ -7,8 +7,10 @@ use Rattle.futmax_main.proofs.answer.put_numbers.Goals as goal
 pub returns-clause-answer : goal.returns-clause-answer
 returns-clause-answer g c =
     let found = c.in-Ok.found.items in
-    puts-answer Scores c.args.pool.now None _ _
+    λ saved.
+    puts-answer Scores c.args.pool.now None saved _ _
     (text_of_scores c.sheet-2.result.now c.epoch.result found) c.put_scores.result
     (scores-answer c.args.pool.now found _ _ _ _ c.requires c.sheet-2.ensures.sheet
-    c.sheet.ensures.sheet c.season.ensures.season c.epoch.ensures c.in-Ok.ensures.right)
+    c.sheet.ensures.sheet c.season.ensures.season c.epoch.ensures c.in-Ok.ensures.right
+    saved)
     (rw c.as_slice.ensures.value at c.put_scores.ensures.text)

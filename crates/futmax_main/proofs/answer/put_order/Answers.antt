@@ -7,8 +7,9 @@ use Rattle.futmax_main.proofs.answer.put_order.Goals as goal
 pub returns-clause-answer : goal.returns-clause-answer
 returns-clause-answer g c =
     let rows = c.in-Ok.rows.items in
-    puts-answer Table c.args.pool.now None _ _
+    λ saved.
+    puts-answer Table c.args.pool.now None saved _ _
     (text_of_table c.sheet-2.result.now c.epoch.result rows) c.put_table.result
     (rows-answer c.args.pool.now rows _ _ _ _ c.requires c.sheet-2.ensures.sheet
-    c.sheet.ensures.sheet c.season.ensures.season c.epoch.ensures c.in-Ok.ensures)
+    c.sheet.ensures.sheet c.season.ensures.season c.epoch.ensures c.in-Ok.ensures saved)
     (rw c.as_slice.ensures.value at c.put_table.ensures.text)

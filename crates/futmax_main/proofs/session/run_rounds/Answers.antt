@@ -4,7 +4,7 @@ use Rattle.futmax_main.proofs.session.run_rounds.Goals as goal
 
 pub returns-in_default-clause-serves : goal.returns-in_default-clause-serves
 returns-in_default-clause-serves g c = λ input ended old path.
-    turn-starved c.args.setup.now.mode input ended _ _ _ path.0 c.args.pool.log _ _ old _ path.2
+    turn-starved c.args.setup.now.mode input ended _ _ _ _ _ _ old _ path.2
 
 pub returns-in_default-clause-last : goal.returns-in_default-clause-last
 returns-in_default-clause-last g c = λ first come. (c.args.reader.now, come.2.last)

@@ -8,8 +8,8 @@ pub returns-in-Ok-clause-way : goal.returns-in-Ok-clause-way
 returns-in-Ok-clause-way g c = λ input ended old path.
     close-gives c.args.setup.now.mode input ended c.args.pool c.in-Ok.field-0.pool
     c.in-Ok.field-0.about _ _ old _ _ path c.in-Ok.field-0.end c.close_round.result
-    c.in-Ok.ensures.ok.ends c.in-Ok.ensures.ok.sheet c.in-Ok.ensures.ok.about
-    c.close_round.ensures.gives
+    c.in-Ok.ensures.ok.ends c.in-Ok.ensures.ok.sheet c.in-Ok.ensures.ok.reported
+    c.in-Ok.ensures.ok.about c.close_round.ensures.gives
 
 pub returns-in-Ok-clause-last : goal.returns-in-Ok-clause-last
 returns-in-Ok-clause-last g c = λ first come.
@@ -17,8 +17,7 @@ returns-in-Ok-clause-last g c = λ first come.
     c.args.source.now c.next_round.new.source c.args.setup.now.mode c.args.pool come
     c.in-Ok.field-0.pool c.in-Ok.field-0.about c.in-Ok.field-0.end _ _
     c.close_round.result _ _ _ _ c.in-Ok.ensures.ok.ends c.in-Ok.ensures.ok.last
-    c.in-Ok.ensures.ok.sheet
-    c.close_round.ensures.gives
+    c.in-Ok.ensures.ok.sheet c.in-Ok.ensures.ok.reported c.close_round.ensures.gives
 
 pub returns-in-Ok-clause-goes_on : goal.returns-in-Ok-clause-goes_on
 returns-in-Ok-clause-goes_on g c =
@@ -35,7 +34,7 @@ returns-in-Ok-clause-counts g c =
 
 pub returns-in-Err-clause-way : goal.returns-in-Err-clause-way
 returns-in-Err-clause-way g c = λ input ended old path.
-    turn-starved c.args.setup.now.mode input ended _ _ _ path.0 c.args.pool.log _ _ old _ path.2
+    turn-starved c.args.setup.now.mode input ended _ _ _ _ _ _ old _ path.2
 
 pub returns-in-Err-clause-last : goal.returns-in-Err-clause-last
 returns-in-Err-clause-last g c = λ first come.

@@ -1,14 +1,15 @@
 use Rattle.futmax_main.proofs.CloseLemmas.{sheet-counts, sheet-last}
-use Rattle.futmax_main.proofs.LastReadLemmas.{sheet-goes_on}
+use Rattle.futmax_main.proofs.LastReadLemmas.{sheet-come}
 use Rattle.futmax_main.proofs.TurnLemmas.{sheet-comes, sheet-stops}
 use Rattle.futmax_main.proofs.session.take_sheet.Goals as goal
 
 pub returns-in-Ok-clause-way : goal.returns-in-Ok-clause-way
 returns-in-Ok-clause-way g c =
-    sheet-comes c.args.mode c.args.reader.now c.read_sheet.new.reader
+    c.begin_feed.ensures.way (g.S.Source.left c.args.source.now)
+    (g.S.Source.ended c.args.source.now) (g.K.Sink.holds c.args.sink.now)
+    (sheet-comes c.args.mode c.args.reader.now c.read_sheet.new.reader
     (g.S.Source.left c.args.source.now) (g.S.Source.left c.read_sheet.new.source) _ _
-    c.in-Ok.sheet _ c.begin_feed.result c.requires c.in-Ok.ensures.reads c.in-Ok.ensures.passes
-    c.begin_feed.ensures.begins
+    c.in-Ok.sheet _ c.requires c.in-Ok.ensures.reads c.in-Ok.ensures.passes)
 
 pub returns-in-Err-clause-way : goal.returns-in-Err-clause-way
 returns-in-Err-clause-way g c =
@@ -20,10 +21,15 @@ returns-in-Err-clause-way g c =
 
 pub returns-in-Ok-clause-last : goal.returns-in-Ok-clause-last
 returns-in-Ok-clause-last g c =
-    sheet-goes_on g.S.Source.left g.S.Source.reads c.args.mode c.args.reader.now
+    c.begin_feed.ensures.last c.args.source.now
+    (sheet-come g.S.Source.left g.S.Source.reads c.args.mode c.args.reader.now
     c.read_sheet.new.reader c.args.source.now c.read_sheet.new.source c.requires
-    c.read_sheet.ensures.takes _ _ _ c.in-Ok.sheet c.begin_feed.result c.in-Ok.ensures.passes.1
-    c.in-Ok.ensures.reads c.in-Ok.ensures.last c.begin_feed.ensures.begins
+    c.read_sheet.ensures.takes _ _ _ c.in-Ok.sheet c.in-Ok.ensures.passes.1
+    c.in-Ok.ensures.reads c.in-Ok.ensures.last)
+
+pub returns-in-Ok-clause-counts : goal.returns-in-Ok-clause-counts
+returns-in-Ok-clause-counts g c =
+    rw c.in-Ok.ensures.cause at c.begin_feed.ensures.counts
 
 pub returns-in-Err-clause-last : goal.returns-in-Err-clause-last
 returns-in-Err-clause-last g c =

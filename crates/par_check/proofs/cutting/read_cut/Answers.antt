@@ -1,7 +1,7 @@
 use Rattle.std.proofs.Common.{◌<◌, ◌+◌, ◌∙◌, ℕ, arith, ap, subst, sym, length}
 use Rattle.std.proofs.lemmas.List.{length-map}
 use Rattle.cert_check.specs.LineLists.{NumberedLine}
-use Rattle.cert_check.specs.Tokens.{token_of}
+use Rattle.line_tokens.specs.Tokens.{token_of}
 use Rattle.cert_check.specs.inside.Calls.{ReportView}
 use Rattle.par_check.specs.Cuts.{KeepsItems}
 use Rattle.par_check.proofs.AskLemmas.{AsksCut, asks_on, asks_stop, asks_end, report_is, stopped_is}

@@ -1,10 +1,36 @@
-use Rattle.std.proofs.Common.{Ok, Err, sym, subst, ◌∙◌, arith}
+use Rattle.std.proofs.Common.{Bool, true, false, Ok, Err, refl, sym, ap, subst, ◌∙◌, arith}
+use Rattle.std.proofs.Common.{inl, length}
 use Rattle.port_core.specs.Readers.{contents_to_come}
-use Rattle.port_core.proofs.TakingLemmas.{TakesInput-more}
-use Rattle.pool_save.specs.inside.SavedReadings.{SaveState}
-use Rattle.pool_save.specs.inside.Calls.{ReadsSavedAs}
+use Rattle.port_core.proofs.TakingLemmas.{TakesInput-more, TakesInput-none}
+use Rattle.fixture_sheet.proofs.PassedLemmas.{PassesLines-none}
+use Rattle.pool_save.specs.SavedReadings.{SaveState}
+use Rattle.pool_save.specs.inside.Calls.{LeadsSaved, ReadsSavedAs, saved_answer_after}
+use Rattle.pool_save.specs.inside.SoFar.{IsSaveState}
+use Rattle.pool_save.proofs.ReadingLemmas.{leads-nothing}
+use Rattle.pool_save.proofs.SoFarLemmas.{nothing_sound}
+use Rattle.pool_save.proofs.PassedLemmas.{PassesUpTo-after, PassesUpTo-lines}
 use Rattle.pool_save.proofs.StopLemmas.{saved-further, saved-stops}
 use Rattle.pool_save.proofs.reader.read_items.Goals as goal
+
+pub lines-init : goal.lines-init
+lines-init g c =
+    let start = contents_to_come c.args.reader.now (g.S.Source.left c.args.source.now) in
+    let is = c.begin-held.ensures in
+    let Leads : SaveState → Type 0 =
+    λ s. LeadsSaved c.args.sheet.now c.args.asked.now start start s in
+    let Sound : SaveState → Type 0 = λ s. IsSaveState c.args.sheet.now c.args.asked.now s in
+    let none = ap (λ (s : SaveState). length s.nodes) is in
+    record {
+      leads = subst Leads (sym is) (leads-nothing c.args.sheet.now c.args.asked.now start);
+      sound = subst Sound (sym is) (nothing_sound c.args.sheet.now c.args.asked.now);
+      few = omega (arith, none);
+      within = omega (arith, none);
+      passes = PassesLines-none c.args.reader.now (g.S.Source.left c.args.source.now)
+          (g.S.Source.ended c.args.source.now);
+      takes = TakesInput-none c.args.reader.now (g.S.Source.left c.args.source.now);
+      last = inl (refl, refl);
+      counts = refl;
+    }
 
 pub lines-preserved : goal.lines-preserved
 lines-preserved g c =
@@ -18,6 +44,9 @@ lines-preserved g c =
       sound = sound;
       few = omega (arith, moves.0, few, c.lines.invariant.few);
       within = omega (arith, moves.0, moves.1, few, c.lines.invariant.few);
+      passes = PassesUpTo-lines c.args.reader.now c.lines.reader c.take_line.new.reader _ _ _ _ _ _
+          (saved_answer_after {A = Bool} c.take_line.new.reader (Ok false))
+          c.lines.invariant.passes c.in-Ok-false.ensures.passes;
       takes = TakesInput-more c.args.reader.now c.lines.reader c.take_line.new.reader _ _ _
           c.lines.invariant.takes c.take_line.ensures.takes;
       last = saved-further _ _ c.args.sheet.now c.args.asked.now c.args.reader.now c.lines.reader
@@ -35,6 +64,12 @@ returns-in-Ok-true-clause-reads g c =
     (Ok s.trees) in
     subst P (sym c.held.view_is) (reads _ c.lines.invariant.leads)
 
+pub returns-in-Ok-true-clause-passes : goal.returns-in-Ok-true-clause-passes
+returns-in-Ok-true-clause-passes g c =
+    PassesUpTo-after c.args.reader.now c.lines.reader c.take_line.new.reader _ _ _ _ _ _
+    (saved_answer_after {A = Bool} c.take_line.new.reader (Ok true))
+    c.lines.invariant.passes c.in-Ok-true.ensures.passes
+
 pub returns-in-Ok-true-clause-takes : goal.returns-in-Ok-true-clause-takes
 returns-in-Ok-true-clause-takes g c =
     TakesInput-more c.args.reader.now c.lines.reader c.take_line.new.reader _ _ _
@@ -49,6 +84,12 @@ returns-in-Ok-true-clause-last g c =
 
 pub returns-in-Err-clause-reads : goal.returns-in-Err-clause-reads
 returns-in-Err-clause-reads g c = c.in-Err.ensures.reads _ c.lines.invariant.leads
+
+pub returns-in-Err-clause-passes : goal.returns-in-Err-clause-passes
+returns-in-Err-clause-passes g c =
+    PassesUpTo-after c.args.reader.now c.lines.reader c.take_line.new.reader _ _ _ _ _ _
+    (saved_answer_after {A = Bool} c.take_line.new.reader (Err c.in-Err.stop))
+    c.lines.invariant.passes c.in-Err.ensures.passes
 
 pub returns-in-Err-clause-takes : goal.returns-in-Err-clause-takes
 returns-in-Err-clause-takes g c =

@@ -1,7 +1,7 @@
 use Rattle.std.proofs.Common.{refl, sym, ap, ◌∙◌}
 use Rattle.std.proofs.lemmas.Bool.{eq-eqb}
 use Rattle.league_core.specs.game.ClubSets.{clubs_in}
-use Rattle.pool_save.specs.inside.SavedReadings.{with_rival}
+use Rattle.pool_save.specs.SavedReadings.{with_rival}
 use Rattle.pool_save.proofs.RivalLemmas.{set_with, set_stays}
 use Rattle.pool_save.proofs.so_far.with_rival.Goals as goal
 

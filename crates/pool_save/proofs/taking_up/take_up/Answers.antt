@@ -1,5 +1,5 @@
 use Rattle.std.proofs.Common.{◌≡◌, length, refl, arith}
-use Rattle.tree_reuse.specs.inside.Asked.{IsAskedTree}
+use Rattle.tree_reuse.specs.Asked.{IsAskedTree}
 use Rattle.pool_save.proofs.TakingUpLemmas.{all_are_first, last_left, left_after, tree_there}
 use Rattle.pool_save.proofs.taking_up.take_up.Goals as goal
 

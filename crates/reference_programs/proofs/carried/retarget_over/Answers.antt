@@ -1,6 +1,6 @@
 use Rattle.std.proofs.Common.{◌≡◌, ◌<◌, ◌≤◌, ◌∙◌, [], length, ap, sym, arith}
 use Rattle.league_core.specs.search.Trees.{preorder}
-use Rattle.tree_reuse.specs.inside.Retargets.{retargeted_from, most_kept}
+use Rattle.tree_reuse.specs.Retargets.{retargeted_from, most_kept}
 use Rattle.tree_reuse.proofs.RetargetLemmas.{retargeted-many, retargeted-few}
 use Rattle.reference_programs.proofs.carried.retarget_over.Goals as goal
 

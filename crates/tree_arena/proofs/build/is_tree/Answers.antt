@@ -4,7 +4,6 @@ use Rattle.league_core.specs.declared.tree.TreeNode.TheVariants.{Split}
 use Rattle.league_core.specs.declared.zone.Test.TheVariants.{Home}
 use Rattle.tree_arena.proofs.ListLemmas.{reads_leaf, reads_split, reads_none}
 use Rattle.tree_arena.proofs.build.is_tree.Goals as goal
-use Rattle.tree_arena.proofs.build.is_tree.Goals.{}
 use Rattle.tree_arena.proofs.build.is_tree.Goals.{else-splits-via-then-splits+else-trees-lt2}
 use Rattle.tree_arena.proofs.build.is_tree.Goals.{else-splits-via-else-splits}
 

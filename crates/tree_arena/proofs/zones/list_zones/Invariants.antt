@@ -1,6 +1,6 @@
 use Rattle.std.proofs.Common.{drop, reverse}
 use Rattle.league_core.specs.search.Trees.{zones_of}
-use Rattle.league_core.specs.inside.TreeLists.{tree_of, tree_or_leaf}
+use Rattle.league_core.specs.search.TreeLists.{tree_of, tree_or_leaf}
 use Rattle.tree_arena.specs.inside.Calls.{literals_of}
 use Rattle.tree_arena.specs.inside.Steps.{ListsZones}
 use Rattle.tree_arena.proofs.zones.list_zones.Given as goal

@@ -1,7 +1,7 @@
 use Rattle.std.proofs.Common.{◌≡◌, ◌-◌, ◌≤◌, [], length, drop, reverse}
 use Rattle.std.specs.List.{All}
 use Rattle.league_core.specs.search.Trees.{preorder}
-use Rattle.tree_reuse.specs.inside.Retargets.{retargeted_from}
+use Rattle.tree_reuse.specs.Retargets.{retargeted_from}
 use Rattle.tree_reuse.specs.inside.Carrying.{IsWalk}
 use Rattle.tree_arena.specs.inside.Calls.{IsNodeOf}
 use Rattle.tree_reuse.proofs.carry.carry.Given as goal

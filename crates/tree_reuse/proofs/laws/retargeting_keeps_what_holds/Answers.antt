@@ -1,6 +1,6 @@
 use Rattle.std.proofs.Common.{[]}
 use Rattle.league_core.proofs.LendingLemmas.{lent_zones_absent}
-use Rattle.tree_reuse.specs.inside.Retargets.{retargeted}
+use Rattle.tree_reuse.specs.Retargets.{retargeted}
 use Rattle.tree_reuse.proofs.RetargetLemmas.{lent_count-retargeted, times_lent-retargeted}
 use Rattle.tree_reuse.proofs.RetargetLemmas.{new_count-retargeted, node_count-retargeted, kept_good}
 use Rattle.tree_reuse.proofs.RetargetLemmas.{proper_tests, asked_good, proper_asked}

@@ -1,7 +1,7 @@
 use Rattle.std.proofs.Common.{◌<◌, ◌≤◌, length, arith}
 use Rattle.tree_reuse.proofs.RetargetLemmas.{retargeted-many, retargeted-few, retargeted-read}
 use Rattle.tree_reuse.proofs.retargeting.retarget_by.Goals as goal
-use Rattle.tree_reuse.specs.inside.Retargets.{most_kept}
+use Rattle.tree_reuse.specs.Retargets.{most_kept}
 
 pub returns-then-len-clause-tree : goal.returns-then-len-clause-tree
 returns-then-len-clause-tree c =

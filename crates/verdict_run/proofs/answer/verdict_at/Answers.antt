@@ -2,7 +2,7 @@ use Rattle.std.proofs.Common.{◌+◌, Option, refl, subst}
 use Rattle.std.specs.Prelude.{IfSome}
 use Rattle.league_core.specs.declared.question.Claim.TheVariants.{Inside, Outside}
 use Rattle.league_core.specs.game.Questions.{full_question}
-use Rattle.verdict_run.specs.declared.part.Part.{Part}
+use Rattle.answer_rows.specs.declared.part.Part.{Part}
 use Rattle.verdict_run.specs.inside.Parts.{IsRefutedAt}
 use Rattle.verdict_run.specs.inside.Kept.{IsFoundAt}
 use Rattle.verdict_run.proofs.KeptLemmas.{outside_of_pool, inside_of_pool, parts_of_pool}

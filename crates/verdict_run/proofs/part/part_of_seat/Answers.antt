@@ -25,7 +25,7 @@ pub returns-in-None-clause-of_seat : goal.returns-in-None-clause-of_seat
 returns-in-None-clause-of_seat c =
     both_ok c.refuted.result _ _ _
     (λ part known lines. refuted_of_seat c.args.sheet.now c.args.season.now c.args.seat.now part
-    known lines) c.refuted.ensures.known c.refuted.ensures.lines
+    known lines) c.refuted.ensures.kind c.refuted.ensures.lines
 
 pub returns-in-None-2-clause-enough : goal.returns-in-None-2-clause-enough
 returns-in-None-2-clause-enough c =

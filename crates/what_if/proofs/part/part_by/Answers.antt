@@ -27,4 +27,4 @@ returns-then-are_true-clause-part c =
     (example_below c.args.stage.now.sheet c.args.stage.now.season c.args.question.now
     c.args.base.now example.finish example.lots c.requires.example
     (rw c.as_season.ensures.season at literals))
-    c.won.ensures.known (rw c.season-season.ensures.season at c.won.ensures.lines)
+    c.won.ensures.kind (rw c.season-season.ensures.season at c.won.ensures.lines)

@@ -31,14 +31,14 @@ returns-in-Won-clause-part c =
     c.season-season.result.now c.sheet-sheet.ensures.sheet c.season-season.ensures.season
     c.sheet-sheet.ensures.limits c.season-season.ensures.of_sheet)
     (rw c.season-season.ensures.season at c.scores-scores.ensures.within) example
-    c.won.ensures.known (rw c.season-season.ensures.season at c.won.ensures.lines)
+    c.won.ensures.kind (rw c.season-season.ensures.season at c.won.ensures.lines)
 
 pub returns-in-Refuted-clause-part : goal.returns-in-Refuted-clause-part
 returns-in-Refuted-clause-part c =
     let solved = rw c.in-Refuted.is at c.in_ok-finish.ensures.solved in
     refuted_given c.args.stage.now.sheet c.args.stage.now.season c.args.base.now
     c.args.question.now c.refuted.result (rw (c.requires.sheet, c.requires.season) at solved)
-    c.refuted.ensures.known c.refuted.ensures.lines
+    c.refuted.ensures.kind c.refuted.ensures.lines
 
 pub returns-clause-part : goal.returns-clause-part
 returns-clause-part c =
@@ -46,4 +46,4 @@ returns-clause-part c =
     spent_given c.args.stage.now.sheet c.args.stage.now.season c.args.base.now
     c.args.question.now c.in-Spent.tree c.spent.result c.requires.base.of_scores
     (rw (c.requires.sheet, c.requires.season, c.sheet-sheet.ensures.sheet) at solved)
-    c.spent.ensures.known c.spent.ensures.lines
+    c.spent.ensures.kind c.spent.ensures.lines

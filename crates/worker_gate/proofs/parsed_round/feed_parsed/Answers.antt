@@ -3,7 +3,9 @@ use Rattle.std.proofs.Common.{ap, refl, sym, ◌∙◌, ◌++◌, ◌∷◌, [],
 use Rattle.league_core.specs.declared.season.Event.{Event}
 use Rattle.branch_pool.specs.inside.States.{out_count}
 use Rattle.result_log.specs.inside.Readings.{answer_as, live_as}
+use Rattle.branch_pool.specs.inside.Steps.{Changes}
 use Rattle.worker_gate.specs.inside.Feeding.{HasComeOn}
+use Rattle.worker_gate.specs.inside.Reports.{ReportsTo, nothing_reported, one_report_more}
 use Rattle.worker_gate.proofs.FeedingLemmas.{come-further, come-nowhere, come-off, come-over}
 use Rattle.worker_gate.proofs.FeedingLemmas.{next-read-as}
 use Rattle.worker_gate.proofs.parsed_round.feed_parsed.Goals as goal
@@ -14,6 +16,7 @@ records-init g c = record {
   sheet = refl;
   questions = refl;
   home = refl;
+  reported = nothing_reported c.args.pool.now;
   come = come-nowhere
       (live_as g.R.Reading.entry (g.R.Reading.tells c.args.reading.now) c.args.pool.now.sheet)
       c.args.pool.now.log _ _;
@@ -35,6 +38,9 @@ records-preserved g c =
     let log = ok-holds c.change_with_room.result
     (c.change_with_room.new.self.log ≡ c.records.pool.log ++ c.in-Change.event ∷ [])
     (sym c.is_err.ensures.value ∙ c.if-is_err.false) c.change_with_room.ensures.log in
+    let changed = ok-holds c.change_with_room.result
+    (Changes c.records.pool c.in-Change.event c.change_with_room.new.self)
+    (sym c.is_err.ensures.value ∙ c.if-is_err.false) c.change_with_room.ensures.ok in
     let P : List Event → Type 0 =
     λ all. HasComeOn g.S.Source.left g.S.Source.ended g.S.Source.faults g.S.Source.reads
     (live_as entry tells c.args.pool.now.sheet) c.args.pool.now.log all c.args.reader.now
@@ -43,6 +49,8 @@ records-preserved g c =
       sheet = c.change_with_room.ensures.sheet ∙ before.sheet;
       questions = c.change_with_room.ensures.questions ∙ before.questions;
       home = ap out_count c.change_with_room.ensures.home ∙ before.home;
+      reported = one_report_more c.args.pool.now c.records.pool c.change_with_room.new.self
+          c.in-Change.event before.reported changed;
       come = subst P (sym log) (come-further before.come c.in-Change.event
           (next-read-as (ap (λ sheet. live_as entry tells sheet c.records.pool.log) before.sheet)
           (rw (sym c.in-Change.ensures) at c.in-Ok.ensures.next)));

@@ -3,6 +3,7 @@ use Rattle.port_core.specs.Contents.{input_limit}
 use Rattle.branch_pool.specs.inside.States.{out_count}
 use Rattle.result_log.specs.inside.Readings.{live_as}
 use Rattle.worker_gate.specs.inside.Feeding.{HasComeOn}
+use Rattle.worker_gate.specs.inside.Reports.{ReportsTo}
 use Rattle.worker_gate.proofs.parsed_round.feed_parsed.Given as goal
 
 -- the lines so far told the events that the log has more than before
@@ -11,6 +12,7 @@ invariant-records g l = record {
   sheet : l.pool.sheet ≡ l.fn.pool.sheet;
   questions : l.pool.questions ≡ l.fn.pool.questions;
   home : out_count l.pool.loans ≡ out_count l.fn.pool.loans;
+  reported : ReportsTo l.fn.pool l.pool;
   come : HasComeOn g.S.Source.left g.S.Source.ended g.S.Source.faults g.S.Source.reads
       (live_as g.R.Reading.entry (g.R.Reading.tells l.reading) l.fn.pool.sheet) l.fn.pool.log
       l.pool.log l.fn.reader l.reader l.fn.source l.source;

@@ -1,5 +1,5 @@
 -- A round of entries, as what it is.
-use Rattle.std.proofs.Common.{Ok, refl}
+use Rattle.std.proofs.Common.{Ok, false, refl}
 use Rattle.fixture_sheet.specs.LastReads.{ReadsOnWay}
 use Rattle.result_log.specs.declared.entry.Entry.TheVariants.{End}
 use Rattle.result_log.specs.inside.LastReads.{GivesEvents, StopsAtClose}
@@ -17,7 +17,7 @@ end_of-end-requires-clause-proofs g c =
 pub returns-clause-ends : goal.returns-clause-ends
 returns-clause-ends g c =
     let round = c.in_ok-round.round in
-    as-rounds (λ live close. EndsRound live c.args.pool.log round.pool.log
+    as-rounds false (λ live close. EndsRound live c.args.pool.log round.pool.log
     (spot_of c.args.reader.now (g.S.Source.left c.args.source.now)
     (g.S.Source.ended c.args.source.now) (g.S.Source.faults c.args.source.now))
     (spot_of c.read_parsed.new.reader (g.S.Source.left c.read_parsed.new.source)
@@ -26,13 +26,15 @@ returns-clause-ends g c =
 
 pub returns-clause-last : goal.returns-clause-last
 returns-clause-last g c =
-    as-rounds (λ live close. StopsAtClose g.S.Source.left g.S.Source.reads live c.args.pool.log
+    as-rounds false (λ live close. StopsAtClose g.S.Source.left g.S.Source.reads live
+    c.args.pool.log
     c.args.reader.now c.read_parsed.new.reader c.args.source.now c.read_parsed.new.source close)
     c.args.pool.sheet _ c.in_ok-round.round.last c.end_of-end.ensures c.in_ok-round.ensures.last
 
 pub returns-in_err-round-clause-err : goal.returns-in_err-round-clause-err
 returns-in_err-round-clause-err g c =
-    err-holds c.from_residual.result _ (as-rounds (λ live close. BreaksOff live c.args.pool.log
+    err-holds c.from_residual.result _ (as-rounds false (λ live close. BreaksOff live
+    c.args.pool.log
     (spot_of c.args.reader.now (g.S.Source.left c.args.source.now)
     (g.S.Source.ended c.args.source.now) (g.S.Source.faults c.args.source.now))
     (spot_of c.read_parsed.new.reader (g.S.Source.left c.read_parsed.new.source)
@@ -41,7 +43,7 @@ returns-in_err-round-clause-err g c =
 
 pub returns-in_err-round-clause-err_last : goal.returns-in_err-round-clause-err_last
 returns-in_err-round-clause-err_last g c =
-    err-holds c.from_residual.result _ (as-rounds (λ live close. ReadsOnWay g.S.Source.left
+    err-holds c.from_residual.result _ (as-rounds false (λ live close. ReadsOnWay g.S.Source.left
     g.S.Source.reads (GivesEvents live c.args.pool.log) c.args.reader.now c.read_parsed.new.reader
     c.args.source.now c.read_parsed.new.source)
     c.args.pool.sheet (Ok End) (Ok End) refl c.in_err-round.ensures.err_last)

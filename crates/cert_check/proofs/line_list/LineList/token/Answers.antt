@@ -1,6 +1,6 @@
 use Rattle.std.proofs.Common.{◌<◌, length, arith}
 use Rattle.std.proofs.lemmas.List.{length-map}
-use Rattle.cert_check.specs.Tokens.{token_of}
+use Rattle.line_tokens.specs.Tokens.{token_of}
 use Rattle.cert_check.specs.LineLists.{NumberedLine, tokens_of}
 use Rattle.cert_check.proofs.ListLemmas.{token_there}
 use Rattle.cert_check.proofs.line_list.LineList.token.Goals as goal

@@ -1,6 +1,6 @@
 use Rattle.std.proofs.Common.{◌≡◌, true, false, sym, ◌∙◌, subst, refl}
 use Rattle.league_core.specs.search.Reasons.{has_reason}
-use Rattle.cert_check.specs.ExpectedItems.{is_reason_for}
+use Rattle.line_tokens.specs.LineRanges.{is_reason_for}
 use Rattle.league_core.specs.inside.Pending.{pending_of}
 use Rattle.cert_check.specs.inside.Calls.{ReportView}
 use Rattle.cert_check.proofs.CallLemmas.{reason_unproved}

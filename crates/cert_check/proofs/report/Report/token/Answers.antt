@@ -1,6 +1,6 @@
 use Rattle.std.proofs.Common.{◌≡◌, ◌+◌, ◌∷◌, drop, subst}
 use Rattle.std.specs.Prelude.{IfOk}
-use Rattle.cert_check.specs.declared.token.Token.{Token}
+use Rattle.line_tokens.specs.declared.token.Token.{Token}
 use Rattle.cert_check.specs.inside.Calls.{ReportView}
 use Rattle.cert_check.proofs.report.Report.token.Goals as goal
 

@@ -1,6 +1,6 @@
 use Rattle.std.proofs.Common.{◌≡◌, ◌-◌, [], length, drop, map, reverse}
 use Rattle.league_core.specs.game.ClubSets.{clubs_in}
-use Rattle.pool_save.specs.inside.SavedReadings.{item_begun}
+use Rattle.pool_save.specs.SavedReadings.{item_begun}
 use Rattle.pool_save.proofs.so_far.SavedSoFar.begin_item.Given as goal
 
 -- what is left of the questions decides, and no tree is being read

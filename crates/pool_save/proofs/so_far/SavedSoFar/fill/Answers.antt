@@ -1,5 +1,5 @@
 use Rattle.std.proofs.Common.{ap, ◌∙◌, arith, length}
-use Rattle.pool_save.specs.inside.SavedReadings.{filled_places}
+use Rattle.pool_save.specs.SavedReadings.{filled_places}
 use Rattle.pool_save.proofs.HeldLemmas.{filled_places-more}
 use Rattle.pool_save.proofs.so_far.SavedSoFar.fill.Goals as goal
 

@@ -1,6 +1,6 @@
 use Rattle.std.proofs.Common.{◌≡◌, ◌-◌, List, length}
 use Rattle.league_core.specs.declared.question.Question.{Question}
-use Rattle.pool_save.specs.inside.SavedReadings.{filled_places}
+use Rattle.pool_save.specs.SavedReadings.{filled_places}
 use Rattle.pool_save.proofs.so_far.SavedSoFar.fill.Given as goal
 
 -- filling up goes on

@@ -1,6 +1,6 @@
 use Rattle.std.proofs.Common.{◌≡◌, IfOk, map, reverse, refl, sym, subst, arith, length, ap, ◌∙◌}
 use Rattle.league_core.specs.game.ClubSets.{clubs_in}
-use Rattle.pool_save.specs.inside.SavedReadings.{SaveStep}
+use Rattle.pool_save.specs.SavedReadings.{SaveStep}
 use Rattle.pool_save.specs.inside.SoFar.{save_step_of}
 use Rattle.std.specs.List.{slice_get}
 use Rattle.std.proofs.Common.{Some}

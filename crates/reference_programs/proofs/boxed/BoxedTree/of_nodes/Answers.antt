@@ -1,7 +1,7 @@
 use Rattle.std.proofs.Common.{◌≡◌, ◌+◌, ◌-◌, length, reverse, Some, None, refl, sym, ◌∙◌, subst}
 use Rattle.std.proofs.Common.{arith, eqb-true}
 use Rattle.league_core.specs.declared.tree.TreeNode.{TreeNode}
-use Rattle.league_core.specs.inside.TreeLists.{with_node}
+use Rattle.league_core.specs.search.TreeLists.{with_node}
 use Rattle.reference_programs.proofs.ListLemmas.{unread_at, read_last}
 use Rattle.reference_programs.proofs.boxed.BoxedTree.of_nodes.Goals as goal
 

@@ -1,5 +1,5 @@
 use Rattle.std.proofs.Common.{◌≡◌, ◌≤◌, length, drop, reverse, Some}
-use Rattle.league_core.specs.inside.TreeLists.{trees_of}
+use Rattle.league_core.specs.search.TreeLists.{trees_of}
 use Rattle.reference_programs.proofs.boxed.BoxedTree.of_nodes.Given as goal
 
 abbrev pub invariant-loop-at : goal.invariant-loop-at

@@ -5,7 +5,7 @@ use Rattle.std.proofs.lemmas.List.{drop_all}
 use Rattle.league_core.specs.declared.tree.TreeNode.TheVariants.{Split}
 use Rattle.league_core.specs.declared.zone.Test.TheVariants.{Home}
 use Rattle.league_core.specs.search.Trees.{preorder}
-use Rattle.league_core.specs.inside.TreeLists.{tree_of, tree_or_leaf}
+use Rattle.league_core.specs.search.TreeLists.{tree_of, tree_or_leaf}
 use Rattle.league_core.specs.declared.tree.TreeNode.{TreeNode}
 use Rattle.tree_arena.specs.inside.Arena.{open_taken}
 use Rattle.tree_arena.proofs.BuildLemmas.{building_begins, building_some, building_few}

@@ -1,5 +1,5 @@
 use Rattle.std.proofs.Common.{List, ℕ, length, drop}
-use Rattle.league_core.specs.inside.TreeLists.{tree_of, tree_or_leaf}
+use Rattle.league_core.specs.search.TreeLists.{tree_of, tree_or_leaf}
 use Rattle.tree_arena.proofs.BuildLemmas.{IsBuilding}
 use Rattle.tree_arena.proofs.OrderLemmas.{IsOrdered}
 use Rattle.tree_arena.proofs.build.Build.of_list.Given as goal

@@ -1,7 +1,7 @@
 use Rattle.std.proofs.Common.{ap, ◌∙◌}
 use Rattle.std.specs.Option.{is_some}
 use Rattle.league_core.specs.search.Trees.{zones_of}
-use Rattle.league_core.specs.inside.TreeLists.{tree_of, tree_or_leaf, tree_of-preorder}
+use Rattle.league_core.specs.search.TreeLists.{tree_of, tree_or_leaf, tree_of-preorder}
 use Rattle.tree_arena.proofs.tree.Tree.leaves.Goals as goal
 
 pub list_zones-requires : goal.list_zones-requires

@@ -1,0 +1,2 @@
+-- What a function promises the crates above: no promise of the program rests on these words.
+pub mod NodeCalls

@@ -1,0 +1,14 @@
+//! What a line of a report or of a saved text is, read alone, and what the lines of a tree may
+//! name.
+//!
+//! Read `specs/Tokens.antt` first, then `specs/LineRanges.antt` and `specs/TreeNodes.antt`. Nothing
+//! of the search is named here.
+#![tactic(auto)]
+
+mod ranges;
+mod token;
+mod tree_line;
+
+pub use ranges::{is_reason_for, is_test_for};
+pub use token::{Token, counts, read_token};
+pub use tree_line::{TreeKind, node_of};

@@ -1,0 +1,72 @@
+//! What one line of a report is, before it is known whether it may come there.
+
+ghost use Rattle.std.specs.Prelude.{◌≡◌, IfOk};
+ghost use Rattle.line_tokens.specs.Tokens.{token_of, token_of_row, begins_proof, token_of_line};
+ghost use Rattle.line_tokens.specs.Tokens as tokens;
+ghost use Rattle.cert_text.specs.Forms.{line_in};
+
+use cert_text::{LineStop, ProofLine, read_line};
+use fixture_sheet::{Fields, FieldsStop, fields_of};
+use league_core::OutOfMemory;
+use std::alloc::Global;
+
+/// A line of a report, read alone.
+#[derive(Drop)]
+pub enum Token {
+    /// No field is left of it: it is passed over.
+    Blank,
+    /// A row, by its fields.
+    Row(Fields),
+    /// A proof line.
+    Proof(ProofLine),
+    /// Neither: no place of a report has such a line.
+    Unknown,
+}
+
+/// What a line is, by its bytes without its end.
+pub fn read_token(alloc: Global, text: &[u8]) -> Result<Token, OutOfMemory>
+    ensures { IfOk result (λ token. token ≡ token_of text.now) }
+{
+    if begins_proof(text) {
+        proof_token(alloc, text)
+    } else {
+        row_token(alloc, text)
+    }
+}
+
+fn begins_proof(text: &[u8]) -> bool
+    ensures { result ≡ begins_proof text.now }
+{
+    match text {
+        [first, ..] => *first == b'[',
+        [] => false,
+    }
+}
+
+fn proof_token(alloc: Global, text: &[u8]) -> Result<Token, OutOfMemory>
+    ensures { IfOk result (λ token. token ≡ token_of_line (line_in text.now)) }
+{
+    match read_line(alloc, text) {
+        Ok(line) => Ok(Token::Proof(line)),
+        Err(LineStop::NoForm) => Ok(Token::Unknown),
+        Err(LineStop::OutOfMemory) => Err(OutOfMemory),
+    }
+}
+
+fn row_token(alloc: Global, text: &[u8]) -> Result<Token, OutOfMemory>
+    ensures { IfOk result (λ token. token ≡ token_of_row text.now) }
+{
+    match fields_of(alloc, text) {
+        Ok(Some(fields)) => Ok(Token::Row(fields)),
+        Ok(None) => Ok(Token::Blank),
+        Err(FieldsStop::InnerReturn) => Ok(Token::Unknown),
+        Err(FieldsStop::OutOfMemory) => Err(OutOfMemory),
+    }
+}
+
+/// The line counts: it is not passed over.
+pub fn counts(token: &Token) -> bool
+    ensures { result ≡ tokens.counts token.now }
+{
+    !matches!(token, Token::Blank)
+}

@@ -1,0 +1,70 @@
+//! Which node of a tree a line stands for.
+
+ghost use Rattle.std.specs.Prelude.{◌≡◌};
+ghost use Rattle.line_tokens.specs.TreeNodes.{node_in};
+ghost use Rattle.line_tokens.specs.inside.NodeCalls.{node_of_token};
+
+use crate::token::Token;
+use cert_text::ProofLine;
+use league_core::TreeNode;
+
+/// What a tree in a text stands for.
+#[derive(Clone, Copy)]
+pub enum TreeKind {
+    /// Each leaf is refuted; no node is marked new.
+    Refutation,
+    /// The budget was spent on it, and a leaf is open.
+    Spent,
+}
+
+/// The node of a tree of this kind that a line stands for.
+pub fn node_of(kind: TreeKind, token: &Token) -> Option<TreeNode>
+    ensures { result ≡ node_of_token kind token.now }
+{
+    match token {
+        Token::Proof(line) => match kind {
+            TreeKind::Refutation => refutation_node(line),
+            TreeKind::Spent => spent_node(line),
+        },
+        _ => None,
+    }
+}
+
+fn refutation_node(line: &ProofLine) -> Option<TreeNode>
+    ensures { result ≡ node_in TreeKind.Refutation line.now }
+{
+    let fresh = false;
+    match line {
+        ProofLine::Split(test) => Some(TreeNode::Split { test: *test, fresh }),
+        ProofLine::Leaf(reason) => Some(TreeNode::Refuted {
+            reason: *reason,
+            fresh,
+        }),
+        _ => None,
+    }
+}
+
+fn spent_node(line: &ProofLine) -> Option<TreeNode>
+    ensures { result ≡ node_in TreeKind.Spent line.now }
+{
+    match line {
+        ProofLine::Split(test) => Some(TreeNode::Split {
+            test: *test,
+            fresh: false,
+        }),
+        ProofLine::NewSplit(test) => Some(TreeNode::Split {
+            test: *test,
+            fresh: true,
+        }),
+        ProofLine::Leaf(reason) => Some(TreeNode::Refuted {
+            reason: *reason,
+            fresh: false,
+        }),
+        ProofLine::NewLeaf(reason) => Some(TreeNode::Refuted {
+            reason: *reason,
+            fresh: true,
+        }),
+        ProofLine::OpenLeaf => Some(TreeNode::Open),
+        _ => None,
+    }
+}

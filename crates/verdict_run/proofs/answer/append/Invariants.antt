@@ -1,6 +1,0 @@
-use Rattle.std.proofs.Common.{◌≡◌, ◌++◌}
-use Rattle.verdict_run.proofs.answer.append.Given as goal
-
--- the lines so far come after the first ones
-abbrev pub invariant-loop-line : goal.invariant-loop-line
-invariant-loop-line l = l.lines.items ≡ l.fn.lines.items ++ l.yielded
