@@ -47,15 +47,17 @@ use Rattle.line_tokens.specs.Tokens.{counts, counted_lines}
 use Rattle.cert_check.specs.ExpectedItems.{verdict_fields, ask_fields}
 use Rattle.line_tokens.specs.LineRanges.{name_of_club}
 use Rattle.cert_check.specs.ExpectedItems.{Expected}
-use Rattle.cert_check.specs.Machine.{with_unsettled, ending_of, whole_at, rows_of, part_of_ask}
+use Rattle.cert_check.specs.LineGrammars.{whole_at}
+use Rattle.cert_check.specs.Machine.{with_unsettled, is_unsettled_row, ending_of, rows_of}
+use Rattle.cert_check.specs.Machine.{part_of_ask}
 use Rattle.cert_check.specs.inside.Grammar.{NodeFits, line_of_node, IsRefutationPart, IsSpentPart}
 use Rattle.cert_check.specs.inside.Grammar.{IsExamplePart, IsAfterReport, AreParts}
-use Rattle.cert_check.specs.inside.Laws.{unsettled_with}
 use Rattle.cert_check.specs.inside.Calls.{unsettled_in}
 use Rattle.cert_check.specs.inside.Answers.{ShowsRefutedHeaded, ShowsSpentHeaded, ShowsExampleOf}
 use Rattle.cert_check.specs.inside.Answers.{ShowsWord, ShownItem, item_tokens, answer_tokens}
 use Rattle.cert_check.specs.inside.Answers.{AreShown, unsettled_items, row_due}
 use Rattle.cert_check.proofs.ExampleLemmas.{same_finish}
+use Rattle.cert_check.specs.inside.LineParts.{unsettled_with}
 use Rattle.cert_check.proofs.ReportLemmas.{proved_is_accepted}
 
 -- what all literals of a zone pass, one that is found passes
@@ -345,14 +347,14 @@ items_parts basis (item ∷ items) shown = (
 
 -- proof lines have no unsettled row
 unsettled-proofs : (lines : List ProofLine) (unsettled : ℕ)
-    → unsettled_with unsettled (map Proof lines) ≡ unsettled
+    → unsettled_with is_unsettled_row unsettled (map Proof lines) ≡ unsettled
 unsettled-proofs [] unsettled = refl
 unsettled-proofs (shown ∷ lines) unsettled = unsettled-proofs lines unsettled
 
 -- of lines one after another, first the ones and then the others
 unsettled_with-append : (front back : List Token) (unsettled : ℕ)
-    → unsettled_with unsettled (front ++ back) ≡ unsettled_with (unsettled_with unsettled front)
-    back
+    → unsettled_with is_unsettled_row unsettled (front ++ back)
+    ≡ unsettled_with is_unsettled_row (unsettled_with is_unsettled_row unsettled front) back
 unsettled_with-append [] back unsettled = refl
 unsettled_with-append (token ∷ front) back unsettled =
     unsettled_with-append front back (with_unsettled unsettled token)
@@ -368,12 +370,12 @@ unsettled-row number name Unsettled unsettled = refl
 
 -- items have as many unsettled rows as unsettled words
 unsettled-items : (basis : Basis) (items : List ShownItem) (unsettled : ℕ)
-    → unsettled_with unsettled (flat_map (item_tokens basis) items)
+    → unsettled_with is_unsettled_row unsettled (flat_map (item_tokens basis) items)
     ≡ unsettled + unsettled_items items
 unsettled-items basis [] unsettled = omega arith
 unsettled-items basis (item ∷ items) unsettled =
     unsettled_with-append (item_tokens basis item) (flat_map (item_tokens basis) items) unsettled
-    ∙ ap (λ it. unsettled_with it (flat_map (item_tokens basis) items))
+    ∙ ap (λ it. unsettled_with is_unsettled_row it (flat_map (item_tokens basis) items))
     (unsettled-proofs item.lines
     (with_unsettled unsettled (Row (verdict_fields item.line (name_of_club basis.sheet item.club)
     item.word)))
@@ -422,9 +424,10 @@ answer_accepted basis items rest from rows shown =
           (items_parts basis items shown),
       refl,
     ) in
-    let read = proved_is_accepted basis tokens rest (part_of_ask basis.sheet) from 0
+    let read = proved_is_accepted basis tokens rest
+    (part_of_ask basis.sheet) from 0
     (subst P (sym (counted_all tokens all)) part) in
     read.1
-    ∙ ap (λ it. whole_at it (unsettled_with 0 tokens)) (read.3 all)
+    ∙ ap (λ it. whole_at it (unsettled_with is_unsettled_row 0 tokens)) (read.3 all)
     ∙ ap (whole_at (from + length tokens))
     (unsettled-items basis items 0 ∙ zero-add (unsettled_items items))

@@ -1,6 +1,6 @@
 -- What the next line that counts makes of the reading, by what is due there.
 use Rattle.std.proofs.Common.{◌≡◌, ℕ, ◌+◌, Bool, true, false, not, ◌&&◌, List, [], ◌∷◌, ◌++◌}
-use Rattle.std.proofs.Common.{Ok, refl, ap, ◌∙◌}
+use Rattle.std.proofs.Common.{Ok, refl, sym, ap, ◌∙◌, drop}
 use Rattle.std.proofs.Common.{arith}
 use Rattle.std.proofs.lemmas.Bool.{false≢true, and_parts, and_from}
 use Rattle.league_core.specs.declared.sheet.Sheet.{Sheet}
@@ -18,26 +18,40 @@ use Rattle.cert_check.specs.declared.stop.CheckStopAt.TheVariants as halt
 use Rattle.line_tokens.specs.declared.tree_line.TreeKind.{TreeKind}
 use Rattle.cert_check.specs.declared.expected.Tally.{Tally}
 use Rattle.cert_check.specs.ExpectedItems.{Basis, Expected, ask_row, verdict_row}
-use Rattle.cert_check.specs.ExpectedItems.{nodes, go}
+use Rattle.cert_check.specs.LineGrammars.{go, by_next}
+use Rattle.cert_check.specs.ExpectedItems.{nodes}
 use Rattle.cert_check.specs.ExpectedItems.{after, is_ask_row, is_path_for}
 use Rattle.line_tokens.specs.LineRanges.{is_reason_for}
 use Rattle.cert_check.specs.ExpectedItems.{after_leaf}
 use Rattle.cert_check.specs.ExpectedItems.{after_node, with_fresh}
-use Rattle.cert_check.specs.Machine.{with_unsettled, by_next}
-use Rattle.cert_check.specs.Machine.{ending_of}
+use Rattle.cert_check.specs.Machine.{with_unsettled}
+use Rattle.cert_check.specs.Machine.{ending_of, report_grammar}
+use Rattle.line_tokens.specs.Tokens.{counts}
 use Rattle.cert_check.specs.inside.Calls.{ReportView, ending_from, HaltsAt, Goes, IsNextAt}
 use Rattle.cert_check.proofs.NextLemmas.{go-if, bad-go, if-go}
 use Rattle.cert_check.proofs.RowLemmas.{ask_row-says}
 
--- what the reading comes to at the next line that counts
-at_next : (judged : ReportView) (from at : ℕ) (token : Token) → IsNextAt judged from at token
+-- a line of a report is read by what is due
+pub line_reads : (judged : ReportView) (at : ℕ) (token : Token)
+    → drop at judged.tokens ≡ token ∷ drop (at + 1) judged.tokens
     → (due : Expected) (dues : List Expected) (unsettled : ℕ)
-    → ending_from judged from (due ∷ dues) unsettled ≡
-    by_next (after judged.basis due token) at
+    → ending_from judged at (due ∷ dues) unsettled
+    ≡ by_next (after judged.basis due token) at
     (λ more. ending_from judged (at + 1) (more ++ dues) (with_unsettled unsettled token))
-at_next judged from at token is due dues unsettled =
-    is.same due dues unsettled
-    ∙ ap (λ lines. ending_of judged.basis lines (due ∷ dues) at unsettled) is.there
+unfolding report_grammar
+line_reads judged at token there due dues unsettled =
+    ap (λ lines. ending_of judged.basis lines (due ∷ dues) at unsettled) there
+
+-- a line that does not count is passed over
+pub line_passes : (judged : ReportView) (at : ℕ) (token : Token)
+    → drop at judged.tokens ≡ token ∷ drop (at + 1) judged.tokens → counts token ≡ false
+    → (due : Expected) (dues : List Expected) (unsettled : ℕ)
+    → ending_from judged at (due ∷ dues) unsettled
+    ≡ ending_from judged (at + 1) (due ∷ dues) unsettled
+line_passes judged at Blank there passed = line_reads judged at Blank there
+line_passes judged at (Row fields) there passed = absurd (false≢true (sym passed))
+line_passes judged at (Proof shown) there passed = absurd (false≢true (sym passed))
+line_passes judged at Unknown there passed = absurd (false≢true (sym passed))
 
 -- a line that does not prove what it says
 pub next_unproved : (judged : ReportView) (from at : ℕ) (token : Token)
@@ -46,7 +60,7 @@ pub next_unproved : (judged : ReportView) (from at : ℕ) (token : Token)
 next_unproved judged from at token is due more goes = (
   is.within,
   λ dues unsettled.
-      at_next judged from at token is due dues unsettled
+      is.reads due dues unsettled
       ∙ ap (λ next. by_next next at
       (λ rest. ending_from judged (at + 1) (rest ++ dues) (with_unsettled unsettled token))) goes,
 )
@@ -77,7 +91,7 @@ pub next_goes : (judged : ReportView) (from at : ℕ) (token : Token) → IsNext
     → ending_from judged from (due ∷ dues) unsettled
     ≡ ending_from judged (at + 1) (more ++ dues) unsettled
 next_goes judged from at token is due more is_other goes dues unsettled =
-    at_next judged from at token is due dues unsettled
+    is.reads due dues unsettled
     ∙ ap (λ next. by_next next at
     (λ rest. ending_from judged (at + 1) (rest ++ dues) (with_unsettled unsettled token))) goes
     ∙ ap (ending_from judged (at + 1) (more ++ dues))

@@ -17,7 +17,8 @@ use Rattle.line_tokens.specs.declared.token.Token.TheVariants.{Blank, Row, Proof
 use Rattle.cert_check.specs.declared.stop.CheckStopAt.{CheckStopAt}
 use Rattle.cert_check.specs.declared.stop.CheckStopAt.TheVariants as halt
 use Rattle.line_tokens.specs.Tokens.{counts}
-use Rattle.cert_check.specs.ExpectedItems.{Basis, Expected, lots, bad, go, after, is_ending}
+use Rattle.cert_check.specs.LineGrammars.{bad, go}
+use Rattle.cert_check.specs.ExpectedItems.{Basis, Expected, lots, after, is_ending}
 use Rattle.cert_check.specs.ExpectedItems.{finish_with}
 use Rattle.cert_check.specs.ExpectedItems.{lots_if_drawn, scores_due}
 use Rattle.cert_check.specs.inside.Calls.{ReportView, ending_from, HaltsAt, Goes, IsNextAt}

@@ -28,7 +28,7 @@ use Rattle.cert_check.specs.ExpectedItems.{spent_head, finish_head, both_parts, 
 use Rattle.cert_check.specs.ExpectedItems.{score, lots, ask_fields, verdict_fields}
 use Rattle.line_tokens.specs.LineRanges.{name_of_club}
 use Rattle.cert_check.specs.ExpectedItems.{finish_with, is_tally_whole}
-use Rattle.cert_check.specs.inside.Grammar.{IsPartFor, AreParts, TreesFit, AreTrees, lines_of_trees}
+use Rattle.cert_check.specs.inside.Grammar.{IsPartFor, TreesFit, AreTrees, lines_of_trees}
 use Rattle.cert_check.specs.inside.Grammar.{no_tally, IsExampleFrom, IsRefutationPart, IsSpentPart}
 use Rattle.cert_check.specs.inside.Grammar.{IsExamplePart, tally_after}
 use Rattle.league_core.proofs.plain.Options.{OnTrue-false}
@@ -114,7 +114,7 @@ some_example basis question =
     (Proof (line.Finish question.claim) ∷ rest.0, (rest.0, rest.1, refl))
 
 -- some part for anything that is due
-some_part : (basis : Basis) (due : Expected) → (tokens : List Token)
+pub some_part : (basis : Basis) (due : Expected) → (tokens : List Token)
     × IsPartFor false basis due tokens
 some_part basis ask_row = (Row (ask_fields basis.epoch) ∷ [], refl)
 some_part basis (verdict_row number club) =
@@ -142,23 +142,6 @@ some_part basis (lots question ended) =
         drawn.1,
         OnTrue-false (IsTrue (holds_at basis.sheet question
             (finish_with basis.season ended) drawn.0)),
-        refl,
-      ),
-    )
-
--- parts for everything that is due
-pub some_parts : (basis : Basis) (dues : List Expected)
-    → (tokens : List Token) × AreParts false basis dues tokens
-some_parts basis [] = ([], refl)
-some_parts basis (due ∷ dues) =
-    let front = some_part basis due in
-    let back = some_parts basis dues in (
-      front.0 ++ back.0,
-      (
-        front.0,
-        back.0,
-        front.1,
-        back.1,
         refl,
       ),
     )

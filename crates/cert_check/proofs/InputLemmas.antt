@@ -18,7 +18,7 @@ use Rattle.result_log.specs.declared.fault.FeedFault.{FeedFault}
 use Rattle.result_log.specs.declared.fault.FeedStop.TheVariants as feed_stop
 use Rattle.cert_check.specs.LineLists.{NumberedLine}
 use Rattle.line_tokens.specs.Tokens.{counts, token_of}
-use Rattle.cert_check.specs.Machine.{Ending, whole_at, bad_line, no_proof, short}
+use Rattle.cert_check.specs.LineGrammars.{Ending, whole_at, bad_line, no_proof, short}
 use Rattle.cert_check.specs.declared.feed.FeedRead.{FeedRead}
 use Rattle.cert_check.specs.declared.lines.ReportLines.{ReportLines}
 use Rattle.cert_check.specs.declared.lines.LinesStop.TheVariants as lines_stop

@@ -8,7 +8,12 @@ pub mod LineHeadLemmas
 pub mod LinePlaceLemmas
 pub mod LineBlockLemmas
 pub mod LineListLemmas
+pub mod MachineLemmas
+pub mod CountLemmas
+pub mod AlikeLemmas
+pub mod PieceLemmas
 pub mod NextLemmas
+pub mod LinePartLemmas
 pub mod RowLemmas
 pub mod NodeLemmas
 pub mod ScoreLemmas

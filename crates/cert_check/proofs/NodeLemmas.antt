@@ -22,12 +22,14 @@ use Rattle.line_tokens.specs.declared.token.Token.TheVariants.{Proof}
 use Rattle.line_tokens.specs.declared.tree_line.TreeKind.{TreeKind}
 use Rattle.line_tokens.specs.declared.tree_line.TreeKind.TheVariants.{Refutation, Spent}
 use Rattle.cert_check.specs.declared.expected.Tally.{Tally}
-use Rattle.cert_check.specs.ExpectedItems.{Basis, Expected, nodes, go, with_fresh}
+use Rattle.cert_check.specs.LineGrammars.{go}
+use Rattle.cert_check.specs.ExpectedItems.{Basis, Expected, nodes, with_fresh}
 use Rattle.line_tokens.specs.TreeNodes.{node_in}
 use Rattle.cert_check.specs.ExpectedItems.{with_open, is_tally_whole, after_leaf, after_node}
-use Rattle.cert_check.specs.ExpectedItems.{after_node_if}
+use Rattle.cert_check.specs.ExpectedItems.{after, after_node_if}
 use Rattle.line_tokens.specs.LineRanges.{is_reason_for}
 use Rattle.cert_text.specs.TreeLines.{is_test_for}
+use Rattle.cert_check.specs.inside.Grammar.{report_parts}
 use Rattle.cert_check.specs.inside.Grammar.{NodeFits, TreesFit, line_of_node, lines_of_tree}
 use Rattle.cert_check.specs.inside.Grammar.{lines_of_trees, with_tree, tally_after, AreTrees}
 use Rattle.cert_check.specs.inside.Grammar.{AreParts}
@@ -92,7 +94,7 @@ join_split proved basis kind question zone zones tally test fresh holds more tok
     let fits = go-if (is_test_for basis.sheet question test) _ holds more goes in
     let dues = (go-same true holds _ more fits.1).1 in
     let P : List Expected → Type 0 = λ it. AreParts proved basis it tokens in
-    let halves = only_part proved basis
+    let halves = only_part report_parts proved basis
     (nodes kind question (with_test zone test true) (with_test zone test false ∷ zones)
     (with_fresh fresh tally)) tokens (subst P (sym dues) parts) in
     joined halves.0 fits.0 halves.1 halves.2 halves.3
@@ -145,7 +147,7 @@ join_leaf proved basis kind question zone (next ∷ zones) tally behind leaf sho
     tokens fits counted lines goes so parts =
     let same = go-same says holds (nodes kind question next zones behind ∷ []) more goes in
     let P : List Expected → Type 0 = λ it. AreParts proved basis it tokens in
-    let rest = only_part proved basis (nodes kind question next zones behind) tokens
+    let rest = only_part report_parts proved basis (nodes kind question next zones behind) tokens
     (subst P (sym same.1) parts) in
     let T : Tally → Type 0 = λ it. OnTrue proved
     (IsTrue (is_tally_whole basis.sheet.budget kind (tally_after it rest.0))) in (
@@ -277,7 +279,8 @@ leaf_goes proved basis kind question (zone ∷ zones) behind says trees so fits 
   nodes kind question zone zones behind ∷ [],
   refl,
   so,
-  as_only_part proved basis (nodes kind question zone zones behind) (lines_of_trees kind trees)
+  as_only_part report_parts proved basis (nodes kind question zone zones behind)
+      (lines_of_trees kind trees)
       (trees, fits, whole, refl),
 )
 
@@ -292,7 +295,7 @@ open_line proved basis Spent question zone fits = refl
 pub part_nodes : (proved : Bool) (basis : Basis) (kind : TreeKind) (question : Question)
     (zone : List Literal) (zones : List (List Literal)) (tally : Tally) (tokens : List Token)
     → AreTrees proved basis kind question (zone ∷ zones) tally tokens
-    → Parted proved basis (nodes kind question zone zones tally) tokens
+    → Parted report_parts proved basis (after basis) (nodes kind question zone zones tally) tokens
 part_nodes proved basis kind question zone zones tally tokens are =
     by_tree are.0 are.1 are.2 are.3
   where
@@ -301,14 +304,16 @@ part_nodes proved basis kind question zone zones tally tokens are =
         → after_node_if basis kind question zone zones tally (node_in kind (line_of_node kind it))
         ≡ go holds more
         → (proved ≡ true → holds ≡ true) → AreParts proved basis more rest
-        → Parted proved basis (nodes kind question zone zones tally) tokens
+        → Parted report_parts proved basis (after basis)
+        (nodes kind question zone zones tally) tokens
     first_line it holds more rest lines goes so parts =
         (Proof (line_of_node kind it), rest, holds, more, lines, goes, so, refl, parts)
 
     by_tree : (trees : List Tree) → TreesFit proved basis kind question (zone ∷ zones) trees
         → OnTrue proved (IsTrue (is_tally_whole basis.sheet.budget kind (tally_after tally trees)))
         → tokens ≡ lines_of_trees kind trees
-        → Parted proved basis (nodes kind question zone zones tally) tokens
+        → Parted report_parts proved basis (after basis)
+        (nodes kind question zone zones tally) tokens
     by_tree [] fits whole lines = absurd fits
     by_tree (branch test fresh yes_half no_half ∷ trees) fits whole lines =
         let behind = with_fresh (kept kind fresh) tally in
@@ -322,7 +327,7 @@ part_nodes proved basis kind question zone zones tally tokens are =
         (lines ∙ branch_lines kind test fresh yes_half no_half trees)
         (ap (after_node_if basis kind question zone zones tally) (line_split kind test fresh)
         ∙ if-go (is_test_for basis.sheet question test) (go true (due ∷ [])) fits.0.0) (λ _. refl)
-        (as_only_part proved basis due (lines_of_trees kind halves) (
+        (as_only_part report_parts proved basis due (lines_of_trees kind halves) (
           halves,
           (fits.0.1, (fits.0.2, fits.1)),
           OnTrue-weaker proved

@@ -25,7 +25,7 @@ use Rattle.cert_check.specs.declared.stop.CheckStop.{CheckStop}
 use Rattle.cert_check.specs.declared.stop.CheckStop.TheVariants as check_stop
 use Rattle.line_tokens.specs.Tokens.{token_of, counts, counted_lines}
 use Rattle.cert_check.specs.LineLists.{NumberedLine, tokens_of, line_number_at}
-use Rattle.cert_check.specs.Machine.{Ending, whole_at, bad_line, no_proof, short}
+use Rattle.cert_check.specs.LineGrammars.{Ending, whole_at, bad_line, no_proof, short}
 use Rattle.cert_check.specs.Machine.{basis_of}
 use Rattle.cert_check.specs.inside.Calls.{ChecksPart, ChecksEnd}
 use Rattle.cert_check.proofs.TruthLemmas.{told_truly}

@@ -22,7 +22,7 @@ use Rattle.line_tokens.specs.Tokens.{counts}
 use Rattle.cert_check.specs.ExpectedItems.{Basis, Expected, ask_row, verdict_row, tree_head}
 use Rattle.cert_check.specs.ExpectedItems.{spent_head}
 use Rattle.cert_check.specs.ExpectedItems.{finish_head, both_parts, one_part, nodes, score, lots}
-use Rattle.cert_check.specs.ExpectedItems.{bad, go}
+use Rattle.cert_check.specs.LineGrammars.{bad, go}
 use Rattle.cert_check.specs.ExpectedItems.{is_ask_row, ask_fields, verdict_fields}
 use Rattle.line_tokens.specs.LineRanges.{name_of_club}
 use Rattle.cert_check.specs.ExpectedItems.{word_in_row, promised, whole_tree}
@@ -31,6 +31,7 @@ use Rattle.cert_check.specs.ExpectedItems.{whole_example}
 use Rattle.cert_check.specs.ExpectedItems.{after_tree_head, after_spent_head, after_finish_head}
 use Rattle.cert_check.specs.ExpectedItems.{after_one_part, after_both_parts, head_in, if_of_claim}
 use Rattle.cert_check.specs.ExpectedItems.{after}
+use Rattle.cert_check.specs.inside.Grammar.{report_parts}
 use Rattle.cert_check.specs.inside.Grammar.{IsPartFor, AreParts, IsRefutationPart, IsSpentPart}
 use Rattle.cert_check.specs.inside.Grammar.{IsExamplePart, IsOnePart, AreBothParts, IsAfterReport}
 use Rattle.cert_check.specs.inside.Grammar.{IsItemLines}
@@ -59,7 +60,7 @@ as_two_parts : (proved : Bool) (basis : Basis) (due second : Expected) (front ba
     → IsPartFor proved basis due front → IsPartFor proved basis second back
     → AreParts proved basis (due ∷ second ∷ []) (front ++ back)
 as_two_parts proved basis due second front back part other =
-    (front, back, part, as_only_part proved basis second back other, refl)
+    (front, back, part, as_only_part report_parts proved basis second back other, refl)
 
 -- a head of this claim
 of_claim : (claim other : Claim) (head found : Head) → if_of_claim claim other head ≡ Some found
@@ -158,7 +159,7 @@ join_refutation proved basis question shown holds more tokens goes parts =
     by_head (Some RefutedTree) is goes =
         let due = whole_tree Refutation question in
         behind_tree proved basis question shown tokens is
-        (only_part proved basis due tokens
+        (only_part report_parts proved basis due tokens
         (those proved basis (due ∷ []) more holds tokens goes parts))
     by_head (Some SpentTree) is goes = absurd (bad-go holds more goes)
     by_head (Some Example) is goes = absurd (bad-go holds more goes)
@@ -180,7 +181,7 @@ join_spent proved basis question shown holds more tokens goes parts =
     by_head (Some SpentTree) is goes =
         let due = whole_tree Spent question in
         behind_spent proved basis question shown tokens is
-        (only_part proved basis due tokens
+        (only_part report_parts proved basis due tokens
         (those proved basis (due ∷ []) more holds tokens goes parts))
     by_head (Some Example) is goes = absurd (bad-go holds more goes)
 
@@ -202,7 +203,7 @@ join_example proved basis question shown holds more tokens goes parts =
     by_head (Some Example) is goes =
         let due = whole_example basis question in
         behind_finish proved basis question shown tokens is
-        (only_part proved basis due tokens
+        (only_part report_parts proved basis due tokens
         (those proved basis (due ∷ []) more holds tokens goes parts))
 
 -- one of the two
@@ -222,12 +223,12 @@ join_one proved basis question shown holds more tokens goes parts =
     by_head (Some SpentTree) is goes =
         let due = whole_tree Spent question in
         inr (behind_spent proved basis question shown tokens is
-        (only_part proved basis due tokens
+        (only_part report_parts proved basis due tokens
         (those proved basis (due ∷ []) more holds tokens goes parts)))
     by_head (Some Example) is goes =
         let due = whole_example basis question in
         inl (behind_finish proved basis question shown tokens is
-        (only_part proved basis due tokens
+        (only_part report_parts proved basis due tokens
         (those proved basis (due ∷ []) more holds tokens goes parts)))
 
 -- the two parts of an unsettled row
@@ -251,7 +252,7 @@ join_both proved basis inside outside shown holds more tokens goes parts =
           two.1,
           inr (
             behind_spent proved basis inside shown two.0 is two.2,
-            only_part proved basis (one_part outside) two.1 two.3,
+            only_part report_parts proved basis (one_part outside) two.1 two.3,
           ),
           ap (λ it. Proof shown ∷ it) two.4,
         )
@@ -263,7 +264,7 @@ join_both proved basis inside outside shown holds more tokens goes parts =
           two.1,
           inl (
             behind_finish proved basis inside shown two.0 is two.2,
-            only_part proved basis (spent_head outside) two.1 two.3,
+            only_part report_parts proved basis (spent_head outside) two.1 two.3,
           ),
           ap (λ it. Proof shown ∷ it) two.4,
         )
@@ -300,22 +301,24 @@ join_item proved basis number club fields holds more tokens goes parts =
     by_word (Some Clinched) is goes =
         let due = tree_head (full_question club number Outside) in
         let same = go-same true holds (due ∷ []) more goes in
-        told Clinched is (only_part proved basis due tokens (subst P (sym same.1) parts))
+        told Clinched is
+        (only_part report_parts proved basis due tokens (subst P (sym same.1) parts))
     by_word (Some Lost) is goes =
         let due = tree_head (full_question club number Inside) in
         let same = go-same true holds (due ∷ []) more goes in
-        told Lost is (only_part proved basis due tokens (subst P (sym same.1) parts))
+        told Lost is (only_part report_parts proved basis due tokens (subst P (sym same.1) parts))
     by_word (Some Possible) is goes =
         let inside = finish_head (full_question club number Inside) in
         let outside = finish_head (full_question club number Outside) in
         let same = go-same true holds (inside ∷ outside ∷ []) more goes in
         let two = subst P (sym same.1) parts in
         told Possible is
-        (two.0, two.1, two.2, only_part proved basis outside two.1 two.3, two.4)
+        (two.0, two.1, two.2, only_part report_parts proved basis outside two.1 two.3, two.4)
     by_word (Some Unsettled) is goes =
         let due = both_parts number club in
         let same = go-same true holds (due ∷ []) more goes in
-        told Unsettled is (only_part proved basis due tokens (subst P (sym same.1) parts))
+        told Unsettled is
+        (only_part report_parts proved basis due tokens (subst P (sym same.1) parts))
 
 -- the row of the ask
 join_ask : (proved : Bool) (basis : Basis) (fields : List (List ℕ)) (holds : Bool)
@@ -389,7 +392,7 @@ join_part proved basis due Unknown holds more tokens counted goes so parts =
 -- a refutation
 part_refutation : (proved : Bool) (basis : Basis) (question : Question) (tokens : List Token)
     → IsRefutationPart proved basis question tokens
-    → Parted proved basis (tree_head question) tokens
+    → Parted report_parts proved basis (after basis) (tree_head question) tokens
 unfolding line_of_head
 part_refutation proved basis question tokens part =
     let due = whole_tree Refutation question in (
@@ -401,12 +404,13 @@ part_refutation proved basis question tokens part =
       ap (after_tree_head question) (head_of_line question.claim RefutedTree),
       λ _. refl,
       refl,
-      as_only_part proved basis due part.0 part.1,
+      as_only_part report_parts proved basis due part.0 part.1,
     )
 
 -- a spent tree
 part_spent : (proved : Bool) (basis : Basis) (question : Question) (tokens : List Token)
-    → IsSpentPart proved basis question tokens → Parted proved basis (spent_head question) tokens
+    → IsSpentPart proved basis question tokens
+    → Parted report_parts proved basis (after basis) (spent_head question) tokens
 unfolding line_of_head
 part_spent proved basis question tokens part =
     let due = whole_tree Spent question in (
@@ -418,13 +422,13 @@ part_spent proved basis question tokens part =
       ap (after_spent_head question) (head_of_line question.claim SpentTree),
       λ _. refl,
       refl,
-      as_only_part proved basis due part.0 part.1,
+      as_only_part report_parts proved basis due part.0 part.1,
     )
 
 -- an example
 part_example : (proved : Bool) (basis : Basis) (question : Question) (tokens : List Token)
     → IsExamplePart proved basis question tokens
-    → Parted proved basis (finish_head question) tokens
+    → Parted report_parts proved basis (after basis) (finish_head question) tokens
 unfolding line_of_head
 part_example proved basis question tokens part =
     let due = whole_example basis question in (
@@ -436,13 +440,14 @@ part_example proved basis question tokens part =
       ap (after_finish_head basis question) (head_of_line question.claim Example),
       λ _. refl,
       refl,
-      as_only_part proved basis due part.0
+      as_only_part report_parts proved basis due part.0
           (rest-scores_due proved basis question basis.season.scores [] part.0 part.1),
     )
 
 -- one of the two
 part_one : (proved : Bool) (basis : Basis) (question : Question) (tokens : List Token)
-    → IsOnePart proved basis question tokens → Parted proved basis (one_part question) tokens
+    → IsOnePart proved basis question tokens
+    → Parted report_parts proved basis (after basis) (one_part question) tokens
 unfolding line_of_head part_example part_spent
 part_one proved basis question tokens (inl part) =
     let it = part_example proved basis question tokens part in (
@@ -473,7 +478,7 @@ part_one proved basis question tokens (inr part) =
 part_both : (proved : Bool) (basis : Basis) (number club : ℕ) (tokens : List Token)
     → AreBothParts proved basis (full_question club number Inside)
     (full_question club number Outside) tokens
-    → Parted proved basis (both_parts number club) tokens
+    → Parted report_parts proved basis (after basis) (both_parts number club) tokens
 unfolding line_of_head
 part_both proved basis number club tokens parts =
     by_part parts.0 parts.1 parts.2 parts.3
@@ -487,7 +492,8 @@ part_both proved basis number club tokens parts =
     by_part : (front back : List Token)
         → (IsExamplePart proved basis inside front × IsSpentPart proved basis outside back)
         ⊎ (IsSpentPart proved basis inside front × IsOnePart proved basis outside back)
-        → tokens ≡ front ++ back → Parted proved basis (both_parts number club) tokens
+        → tokens ≡ front ++ back
+        → Parted report_parts proved basis (after basis) (both_parts number club) tokens
     by_part front back (inl two) lines =
         let due = whole_example basis inside in (
           Proof (line.Finish Inside),
@@ -517,7 +523,7 @@ part_both proved basis number club tokens parts =
 -- the row of a word and what the word asks for
 part_item : (proved : Bool) (basis : Basis) (number club : ℕ) (tokens : List Token)
     → IsItemLines proved basis number club tokens
-    → Parted proved basis (verdict_row number club) tokens
+    → Parted report_parts proved basis (after basis) (verdict_row number club) tokens
 part_item proved basis number club tokens item =
     by_word item.0 item.1 item.2 item.3
   where
@@ -532,7 +538,7 @@ part_item proved basis number club tokens item =
     by_word : (word : RowWord) (rest : List Token)
         → IsAfterReport proved basis number club word rest
         → tokens ≡ Row (verdict_fields number name word) ∷ rest
-        → Parted proved basis (verdict_row number club) tokens
+        → Parted report_parts proved basis (after basis) (verdict_row number club) tokens
     by_word Clinched rest behind lines =
         let due = tree_head (full_question club number Outside) in (
           Row (verdict_fields number name Clinched),
@@ -543,7 +549,7 @@ part_item proved basis number club tokens item =
           goes Clinched,
           λ _. refl,
           refl,
-          as_only_part proved basis due rest behind,
+          as_only_part report_parts proved basis due rest behind,
         )
     by_word Lost rest behind lines =
         let due = tree_head (full_question club number Inside) in (
@@ -555,7 +561,7 @@ part_item proved basis number club tokens item =
           goes Lost,
           λ _. refl,
           refl,
-          as_only_part proved basis due rest behind,
+          as_only_part report_parts proved basis due rest behind,
         )
     by_word Possible rest behind lines =
         let inside = finish_head (full_question club number Inside) in
@@ -572,7 +578,7 @@ part_item proved basis number club tokens item =
             behind.0,
             behind.1,
             behind.2,
-            as_only_part proved basis outside behind.1 behind.3,
+            as_only_part report_parts proved basis outside behind.1 behind.3,
             behind.4,
           ),
         )
@@ -586,12 +592,12 @@ part_item proved basis number club tokens item =
           goes Unsettled,
           λ _. refl,
           refl,
-          as_only_part proved basis due rest behind,
+          as_only_part report_parts proved basis due rest behind,
         )
 
 -- the first line of a part leaves due what its other lines are
 pub part_parts : (proved : Bool) (basis : Basis) (due : Expected) (tokens : List Token)
-    → IsPartFor proved basis due tokens → Parted proved basis due tokens
+    → IsPartFor proved basis due tokens → Parted report_parts proved basis (after basis) due tokens
 part_parts proved basis ask_row tokens part = (
   Row (ask_fields basis.epoch),
   [],

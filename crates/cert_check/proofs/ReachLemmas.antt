@@ -1,13 +1,15 @@
 -- Parts one after another: what is due is shown piece by piece, or the reading stops.
-use Rattle.std.proofs.Common.{◌≡◌, ℕ, ◌+◌, List, [], ◌∷◌, ◌++◌, Result, Ok, Err, drop, refl, sym}
+use Rattle.std.proofs.Common.{◌≡◌, ℕ, ◌+◌, List, [], ◌∷◌, ◌++◌, Result, Ok, Err, drop, sym}
 use Rattle.std.proofs.Common.{ap, ◌∙◌, append_assoc, arith, append-nil}
 use Rattle.cert_check.specs.declared.item.PartRead.{PartRead}
 use Rattle.cert_check.specs.declared.stop.CheckStopAt.{CheckStopAt}
 use Rattle.cert_check.specs.declared.stop.CheckStopAt.TheVariants as halt
 use Rattle.cert_check.specs.ExpectedItems.{Expected}
-use Rattle.cert_check.specs.Machine.{Ending, ending_of, whole_at}
+use Rattle.cert_check.specs.LineGrammars.{Ending, whole_at}
+use Rattle.cert_check.specs.Machine.{report_grammar}
 use Rattle.cert_check.specs.inside.Calls.{ReportView, ending_from, Goes, AllHalt, GoesAfter}
 use Rattle.cert_check.specs.inside.Calls.{GoesOverAll, Reaches}
+use Rattle.cert_check.proofs.MachineLemmas.{nothing_due}
 
 -- of two things due the first is shown
 pub first_shown : (judged : ReportView) (from at : ℕ) (first second : Expected)
@@ -60,12 +62,8 @@ reach_halt judged from at unsettled wanted first later halt.OutOfMemory reaches 
 -- if nothing is due the reading ends
 pub ends_whole : (judged : ReportView) (at unsettled : ℕ)
     → ending_from judged at [] unsettled ≡ whole_at at unsettled
-ends_whole judged at unsettled = of_lines (drop at judged.tokens)
-  where
-    of_lines : (tokens : List _) → ending_of judged.basis tokens [] at unsettled
-        ≡ whole_at at unsettled
-    of_lines [] = refl
-    of_lines (token ∷ tokens) = refl
+ends_whole judged at unsettled =
+    nothing_due report_grammar judged.basis (drop at judged.tokens) at unsettled
 
 -- nothing else being due
 pub all_due : (judged : ReportView) (from : ℕ) (wanted : List Expected) (ending : Ending)

@@ -18,9 +18,11 @@ use Rattle.cert_text.specs.declared.proof_line.ProofLine.TheVariants as line
 use Rattle.cert_text.specs.ExampleLines.{score_lines, lots_line}
 use Rattle.line_tokens.specs.declared.token.Token.{Token}
 use Rattle.line_tokens.specs.declared.token.Token.TheVariants.{Proof}
-use Rattle.cert_check.specs.ExpectedItems.{Basis, Expected, score, lots, go, scores_due, is_ending}
+use Rattle.cert_check.specs.LineGrammars.{go}
+use Rattle.cert_check.specs.ExpectedItems.{Basis, Expected, score, lots, scores_due, is_ending}
 use Rattle.cert_check.specs.ExpectedItems.{finish_with}
-use Rattle.cert_check.specs.ExpectedItems.{after_score, after_lots}
+use Rattle.cert_check.specs.ExpectedItems.{after, after_score, after_lots}
+use Rattle.cert_check.specs.inside.Grammar.{report_parts}
 use Rattle.cert_check.specs.inside.Grammar.{IsPartFor, AreParts, IsExampleFrom, AreLotsOf}
 use Rattle.cert_check.proofs.NextLemmas.{go-same, bad-go, go-if, if-go, only_part, as_only_part}
 use Rattle.cert_check.proofs.NextLemmas.{Parted}
@@ -156,7 +158,7 @@ join_score proved basis question ended left (line.Score fixture ending) holds mo
     let same = go-same true holds (due ∷ []) more fits.1 in
     let rest = with_ended proved basis question ended left None ending tokens tests.1
     (scores_due-rest proved basis question left (ended ++ Some ending ∷ []) tokens
-    (only_part proved basis due tokens (subst P (sym same.1) parts))) in (
+    (only_part report_parts proved basis due tokens (subst P (sym same.1) parts))) in (
       Some ending ∷ rest.0,
       rest.1,
       rest.2,
@@ -192,7 +194,7 @@ join_lots proved basis question ended _ holds more tokens goes so parts =
 pub part_score : (proved : Bool) (basis : Basis) (question : Question)
     (ended left : List (Option Score)) (tokens : List Token)
     → IsExampleFrom proved basis question ended (None ∷ left) tokens
-    → Parted proved basis (score question ended left) tokens
+    → Parted report_parts proved basis (after basis) (score question ended left) tokens
 part_score proved basis question ended left tokens rest =
     first_line rest.0 rest.1 rest.2 rest.3 rest.4 rest.5
   where
@@ -203,7 +205,7 @@ part_score proved basis question ended left tokens rest =
         (finish_with basis.season (ended ++ scores)) drawn))
         → tokens ≡ map Proof
         (score_lines (length ended) (None ∷ left) scores ++ lots_line drawn ∷ [])
-        → Parted proved basis (score question ended left) tokens
+        → Parted report_parts proved basis (after basis) (score question ended left) tokens
     first_line [] drawn may are holds lines = absurd (false≢true may)
     first_line (None ∷ scores) drawn may are holds lines = absurd (false≢true may)
     first_line (Some ending ∷ scores) drawn may are holds lines =
@@ -222,7 +224,7 @@ part_score proved basis question ended left tokens rest =
               (eq-eqb (length ended) (length ended) refl) parts.0),
           λ _. refl,
           refl,
-          as_only_part proved basis due rest
+          as_only_part report_parts proved basis due rest
               (rest-scores_due proved basis question left (ended ++ Some ending ∷ []) rest
               (without_ended proved basis question ended left scores ending drawn parts.1 are
               holds)),
@@ -231,7 +233,7 @@ part_score proved basis question ended left tokens rest =
 -- the lots leave nothing due
 pub part_lots : (proved : Bool) (basis : Basis) (question : Question) (ended : List (Option Score))
     (tokens : List Token) → AreLotsOf proved basis question ended tokens
-    → Parted proved basis (lots question ended) tokens
+    → Parted report_parts proved basis (after basis) (lots question ended) tokens
 part_lots proved basis question ended tokens are =
     let says = holds_at basis.sheet question (finish_with basis.season ended) are.0 in (
       Proof (lots_line are.0),

@@ -29,7 +29,7 @@ use Rattle.cert_check.specs.inside.Grammar.{IsAfterReport, AreParts}
 use Rattle.std.proofs.Common.{drop}
 use Rattle.line_tokens.specs.Tokens.{counted_lines}
 use Rattle.cert_check.specs.LineLists.{NumberedLine, tokens_of}
-use Rattle.cert_check.specs.Machine.{whole_at}
+use Rattle.cert_check.specs.LineGrammars.{whole_at}
 use Rattle.cert_check.specs.inside.Truths.{IsSaidTruly, AreTrueRows}
 use Rattle.cert_check.specs.Machine.{part_ending}
 use Rattle.cert_check.specs.inside.Calls.{SaysTruly}
@@ -150,7 +150,6 @@ pub told_truly : (basis : Basis) (lines : List NumberedLine) (from next unsettle
     → part_ending basis lines from ≡ whole_at next unsettled
     → SaysTruly basis lines from next
 told_truly basis lines from next unsettled ending =
-    let read = accepted_is_proved basis (drop from (tokens_of lines)) (part_of_ask basis.sheet)
-    from 0
-    next unsettled ending in
+    let read = accepted_is_proved basis
+    (drop from (tokens_of lines)) (part_of_ask basis.sheet) from 0 next unsettled ending in
     (read.0, read.1, read.2, read.3, part_true basis (counted_lines read.0) read.5)

@@ -1,6 +1,6 @@
 -- What must come yet in a report, by what a part is judged, and what each line that may come leaves
 -- due in its place. The forms and their order are this project's own.
-use Rattle.std.specs.Prelude.{ℕ, ◌+◌, Bool, true, false, not, ◌&&◌, ◌==◌, nat_le}
+use Rattle.std.specs.Prelude.{ℕ, ◌+◌, Bool, true, false, ◌&&◌, ◌==◌, nat_le}
 use Rattle.std.specs.Prelude.{List, [], ◌∷◌, ◌++◌, length, Option, Some, None, codes, decimal}
 use Rattle.std.specs.Prelude.{bytes_eq, if◌then◌else◌}
 use Rattle.std.specs.List.{list_all}
@@ -34,6 +34,7 @@ use Rattle.line_tokens.specs.declared.tree_line.TreeKind.TheVariants.{Refutation
 use Rattle.cert_check.specs.declared.expected.Tally.{Tally}
 use Rattle.line_tokens.specs.LineRanges.{name_of_club, is_reason_for, same_claim}
 use Rattle.line_tokens.specs.TreeNodes.{node_in}
+use Rattle.cert_check.specs.LineGrammars.{Next, bad, go}
 
 -- what a part of a report is judged by: the sheet, and the season and the epoch of its ask
 pub record Basis : Type 0 where
@@ -56,12 +57,6 @@ pub data Expected : Type 0 where
   nodes : TreeKind → Question → List Literal → List (List Literal) → Tally → Expected
   score : Question → List (Option Score) → List (Option Score) → Expected
   lots : Question → List (Option Score) → Expected
-
--- a line when something is due: it may not come there; or it may, it proves what it says or does
--- not, and other things are due in its place
-pub data Next : Type 0 where
-  bad : Next
-  go : Bool → List Expected → Next
 
 -- ---- rows
 
@@ -138,7 +133,8 @@ is_tally_whole budget Refutation tally = true
 is_tally_whole budget Spent tally = (tally.news == budget) && tally.some_open
 
 -- what is due after a leaf: the next zone that is, or nothing more of the tree
-abbrev pub after_leaf : Basis → TreeKind → Question → List (List Literal) → Tally → Bool → Next
+abbrev pub after_leaf : Basis → TreeKind → Question → List (List Literal) → Tally → Bool
+    → Next Expected
 after_leaf basis kind question [] tally holds =
     go (holds && is_tally_whole basis.sheet.budget kind tally) []
 after_leaf basis kind question (zone ∷ zones) tally holds =
@@ -146,14 +142,14 @@ after_leaf basis kind question (zone ∷ zones) tally holds =
 
 -- what is due after a split: the half where its test is true, and later the other
 abbrev pub after_split : TreeKind → Question → List Literal → List (List Literal) → Tally → Test
-    → Next
+    → Next Expected
 after_split kind question zone zones tally test =
     go true
     (nodes kind question (with_test zone test true) (with_test zone test false ∷ zones) tally ∷ [])
 
 -- what is due after a node
 abbrev pub after_node : Basis → TreeKind → Question → List Literal → List (List Literal) → Tally
-    → TreeNode → Next
+    → TreeNode → Next Expected
 after_node basis kind question zone zones tally (node.Split test fresh) =
     if is_test_for basis.sheet question test
     then after_split kind question zone zones (with_fresh fresh tally) test else bad
@@ -167,7 +163,7 @@ after_node basis kind question zone zones tally (node.Lent number) = bad
 
 -- what is due after a line that may stand for a node
 abbrev pub after_node_if : Basis → TreeKind → Question → List Literal → List (List Literal)
-    → Tally → Option TreeNode → Next
+    → Tally → Option TreeNode → Next Expected
 after_node_if basis kind question zone zones tally None = bad
 after_node_if basis kind question zone zones tally (Some it) =
     after_node basis kind question zone zones tally it
@@ -189,7 +185,7 @@ finish_with season scores = record season { scores = scores }
 -- ---- each line
 
 -- the row of the ask
-abbrev pub after_ask_row : Basis → List (List ℕ) → Next
+abbrev pub after_ask_row : Basis → List (List ℕ) → Next Expected
 after_ask_row basis fields = if is_ask_row basis.epoch fields then go true [] else bad
 
 -- what a word asks for
@@ -202,7 +198,7 @@ dues_of_word line club Possible =
 dues_of_word line club Unsettled = both_parts line club ∷ []
 
 -- what is due after a row, if it has a word
-abbrev pub promised : ℕ → ℕ → Option RowWord → Next
+abbrev pub promised : ℕ → ℕ → Option RowWord → Next Expected
 promised line club None = bad
 promised line club (Some word) = go true (dues_of_word line club word)
 
@@ -226,28 +222,28 @@ abbrev pub whole_example : Basis → Question → Expected
 whole_example basis question = scores_due question [] basis.season.scores
 
 -- a refutation's head
-abbrev pub after_tree_head : Question → Option Head → Next
+abbrev pub after_tree_head : Question → Option Head → Next Expected
 after_tree_head question None = bad
 after_tree_head question (Some RefutedTree) = go true (whole_tree Refutation question ∷ [])
 after_tree_head question (Some SpentTree) = bad
 after_tree_head question (Some Example) = bad
 
 -- a spent tree's head
-abbrev pub after_spent_head : Question → Option Head → Next
+abbrev pub after_spent_head : Question → Option Head → Next Expected
 after_spent_head question None = bad
 after_spent_head question (Some RefutedTree) = bad
 after_spent_head question (Some SpentTree) = go true (whole_tree Spent question ∷ [])
 after_spent_head question (Some Example) = bad
 
 -- an example's head
-abbrev pub after_finish_head : Basis → Question → Option Head → Next
+abbrev pub after_finish_head : Basis → Question → Option Head → Next Expected
 after_finish_head basis question None = bad
 after_finish_head basis question (Some RefutedTree) = bad
 after_finish_head basis question (Some SpentTree) = bad
 after_finish_head basis question (Some Example) = go true (whole_example basis question ∷ [])
 
 -- the head of an example or of a spent tree
-abbrev pub after_one_part : Basis → Question → Option Head → Next
+abbrev pub after_one_part : Basis → Question → Option Head → Next Expected
 after_one_part basis question None = bad
 after_one_part basis question (Some RefutedTree) = bad
 after_one_part basis question (Some SpentTree) = go true (whole_tree Spent question ∷ [])
@@ -255,7 +251,7 @@ after_one_part basis question (Some Example) = go true (whole_example basis ques
 
 -- the first head after an unsettled row: after an example of inside only a spent tree of outside
 -- may come
-abbrev pub after_both_parts : Basis → Question → Question → Option Head → Next
+abbrev pub after_both_parts : Basis → Question → Question → Option Head → Next Expected
 after_both_parts basis inside outside None = bad
 after_both_parts basis inside outside (Some RefutedTree) = bad
 after_both_parts basis inside outside (Some SpentTree) =
@@ -265,7 +261,7 @@ after_both_parts basis inside outside (Some Example) =
 
 -- the score of the fixture that is due
 abbrev pub after_score : Basis → Question → List (Option Score) → List (Option Score) → ProofLine
-    → Next
+    → Next Expected
 after_score basis question ended left (line.Score fixture ending) =
     if (fixture == length ended) && is_ending basis.sheet ending
     then go true (scores_due question (ended ++ Some ending ∷ []) left ∷ []) else bad
@@ -276,21 +272,21 @@ abbrev pub lots_if_drawn : Bool → List ℕ → Option (List ℕ)
 lots_if_drawn is_drawn list = if is_drawn then Some list else None
 
 -- the lots: they end the example, and the question has to hold with them
-abbrev pub after_lots : Basis → Question → List (Option Score) → ProofLine → Next
+abbrev pub after_lots : Basis → Question → List (Option Score) → ProofLine → Next Expected
 after_lots basis question ended (line.Lots list) =
     if are_lots (length basis.sheet.clubs) list.list
     then go (holds_at basis.sheet question (finish_with basis.season ended) list.list) [] else bad
 after_lots basis question ended _ = bad
 
 -- a row when something is due
-abbrev pub after_row : Basis → Expected → List (List ℕ) → Next
+abbrev pub after_row : Basis → Expected → List (List ℕ) → Next Expected
 after_row basis ask_row fields = after_ask_row basis fields
 after_row basis (verdict_row line club) fields =
     promised line club (word_in_row line (name_of_club basis.sheet club) fields)
 after_row basis _ fields = bad
 
 -- a proof line when something is due
-abbrev pub after_proof : Basis → Expected → ProofLine → Next
+abbrev pub after_proof : Basis → Expected → ProofLine → Next Expected
 after_proof basis ask_row it = bad
 after_proof basis (verdict_row line club) it = bad
 after_proof basis (tree_head question) it =
@@ -310,7 +306,7 @@ after_proof basis (score question ended left) it = after_score basis question en
 after_proof basis (lots question ended) it = after_lots basis question ended it
 
 -- any line when something is due; a line that is passed over leaves it due
-abbrev pub after : Basis → Expected → Token → Next
+abbrev pub after : Basis → Expected → Token → Next Expected
 after basis due Blank = go true (due ∷ [])
 after basis due (Row fields) = after_row basis due fields
 after basis due (Proof it) = after_proof basis due it

@@ -1,6 +1,5 @@
--- A report read line by line: at each line there is a list of what must come yet, and the line
--- takes the first of them off, is refused, or proves nothing.
-use Rattle.std.specs.Prelude.{ℕ, ◌+◌, true, false, List, [], ◌∷◌, ◌++◌, bytes_eq, codes, get_or}
+-- A report read line by line, by the grammar of the lines that may come.
+use Rattle.std.specs.Prelude.{ℕ, ◌+◌, Bool, false, List, [], ◌∷◌, bytes_eq, codes, get_or}
 use Rattle.std.specs.Prelude.{if◌then◌else◌, map, drop}
 use Rattle.std.specs.List.{flat_map}
 use Rattle.league_core.specs.declared.sheet.Sheet.{Sheet}
@@ -8,40 +7,30 @@ use Rattle.league_core.specs.game.Sheets.{clubs_of}
 use Rattle.league_core.specs.game.Results.{Results}
 use Rattle.line_tokens.specs.declared.token.Token.{Token}
 use Rattle.line_tokens.specs.declared.token.Token.TheVariants.{Blank, Row, Proof, Unknown}
-use Rattle.cert_check.specs.ExpectedItems.{Basis, Expected, ask_row, verdict_row, Next, bad, go}
+use Rattle.cert_check.specs.LineGrammars.{LineGrammar, Ending, ending_by}
+use Rattle.cert_check.specs.ExpectedItems.{Basis, Expected, ask_row, verdict_row}
 use Rattle.cert_check.specs.ExpectedItems.{after}
 use Rattle.cert_check.specs.LineLists.{NumberedLine, tokens_of}
 
--- what a report comes to: it is whole before this position, with so many unsettled rows; or the
--- line at this position may not come there; or it does not prove what it says; or lines are missing
-pub data Ending : Type 0 where
-  whole_at : ℕ → ℕ → Ending
-  bad_line : ℕ → Ending
-  no_proof : ℕ → Ending
-  short : Ending
+-- the line is the row of an unsettled club
+abbrev pub is_unsettled_row : Token → Bool
+is_unsettled_row Blank = false
+is_unsettled_row (Row fields) = bytes_eq (get_or fields 3 []) (codes "unsettled")
+is_unsettled_row (Proof it) = false
+is_unsettled_row Unknown = false
 
--- one more, if the line is the row of an unsettled club
+-- one more, if the line is such a row
 abbrev pub with_unsettled : ℕ → Token → ℕ
-with_unsettled unsettled Blank = unsettled
-with_unsettled unsettled (Row fields) =
-    if bytes_eq (get_or fields 3 []) (codes "unsettled") then unsettled + 1 else unsettled
-with_unsettled unsettled (Proof it) = unsettled
-with_unsettled unsettled Unknown = unsettled
+with_unsettled unsettled token = if is_unsettled_row token then unsettled + 1 else unsettled
 
--- what a line comes to, and if the report goes on, what the rest of it comes to
-abbrev pub by_next : Next → ℕ → (List Expected → Ending) → Ending
-by_next bad at rest = bad_line at
-by_next (go false dues) at rest = no_proof at
-by_next (go true dues) at rest = rest dues
+-- the grammar of reports, by what a part is judged by
+unfoldable pub report_grammar : LineGrammar Basis Token Expected
+report_grammar = record { after = after; is_unsettled = is_unsettled_row }
 
 -- what the lines from a position on come to if this is due, with so many unsettled rows so far
 abbrev pub ending_of : Basis → List Token → List Expected → ℕ → ℕ → Ending
-ending_of basis [] [] at unsettled = whole_at at unsettled
-ending_of basis [] (due ∷ dues) at unsettled = short
-ending_of basis (token ∷ tokens) [] at unsettled = whole_at at unsettled
-ending_of basis (token ∷ tokens) (due ∷ dues) at unsettled =
-    by_next (after basis due token) at
-    (λ more. ending_of basis tokens (more ++ dues) (at + 1) (with_unsettled unsettled token))
+ending_of basis tokens dues at unsettled =
+    ending_by report_grammar basis tokens dues at unsettled
 
 -- the rows of a line, one for each of these clubs
 abbrev pub rows_on_line : List ℕ → ℕ → List Expected

@@ -22,7 +22,7 @@ use Rattle.result_log.specs.declared.fault.FeedStop.TheVariants as feed_stop
 use Rattle.result_log.specs.Feeds.{Feed, feed_of, season_with, count_with}
 use Rattle.line_tokens.specs.Tokens.{token_of, counts}
 use Rattle.cert_check.specs.LineLists.{NumberedLine, line_number_at}
-use Rattle.cert_check.specs.Machine.{Ending, whole_at, bad_line, no_proof, short}
+use Rattle.cert_check.specs.LineGrammars.{Ending, whole_at, bad_line, no_proof, short}
 use Rattle.cert_check.specs.Machine.{basis_of, part_ending}
 use Rattle.cert_check.specs.declared.outcome.ReportFault.{ReportFault}
 use Rattle.cert_check.specs.declared.outcome.ReportFault.TheVariants.{BadLine, NoProof, Short}

@@ -2,6 +2,8 @@
 -- these words. Read in this order.
 pub mod LineHeads
 pub mod LineBlocks
+pub mod Pieces
+pub mod LineParts
 pub mod Grammar
 pub mod Laws
 pub mod Truths

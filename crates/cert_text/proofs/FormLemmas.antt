@@ -23,11 +23,12 @@ use Rattle.cert_text.specs.declared.proof_line.ProofLine.{ProofLine}
 use Rattle.cert_text.specs.declared.proof_line.ProofLine.TheVariants as line
 use Rattle.cert_text.specs.Lines.{word, number_in_text, test_parts, reason_parts, parts_of}
 use Rattle.cert_text.specs.Ranges.{is_fixture_number, is_club_number, is_goal_bound, are_points}
-use Rattle.cert_text.specs.Ranges.{is_test_in_range, is_set_in_range, is_reason_in_range}
+use Rattle.cert_text.specs.Ranges.{is_one_of, is_test_below, is_test_in_range}
+use Rattle.cert_text.specs.Ranges.{is_set_in_range, is_reason_in_range}
 use Rattle.cert_text.specs.Ranges.{is_in_range, most_goal_bound}
 use Rattle.cert_text.specs.inside.Values.{parts_value}
 use Rattle.cert_text.specs.Places.{if_between, number_here, if_points, listed_clubs, set_listed}
-use Rattle.cert_text.specs.Forms.{test_in, reason_in, line_of_value}
+use Rattle.cert_text.specs.Forms.{test_in, test_below_in, reason_in, line_of_value}
 use Rattle.cert_text.specs.inside.Widths.{is_set_kept, is_reason_kept, is_line_kept}
 use Rattle.cert_text.proofs.BitSumLemmas.{set_listed-clubs_in}
 
@@ -48,13 +49,9 @@ counted most n below =
     back : (n : ℕ) → n + 1 - 1 ≡ n
     back n = omega arith
 
-fixture_back : (fixture : ℕ) → is_fixture_number fixture ≡ true
-    → option_map number_here (if_between 1 most_fixtures (number_in_text fixture)) ≡ Some fixture
-fixture_back fixture known = counted most_fixtures fixture (ltb-true fixture most_fixtures known)
-
-club_back : (club : ℕ) → is_club_number club ≡ true
-    → option_map number_here (if_between 1 most_clubs (number_in_text club)) ≡ Some club
-club_back club known = counted most_clubs club (ltb-true club most_clubs known)
+number_back : (most n : ℕ) → is_one_of most n ≡ true
+    → option_map number_here (if_between 1 most (number_in_text n)) ≡ Some n
+number_back most n known = counted most n (ltb-true n most known)
 
 up_to : (most n : ℕ) → nat_le n most ≡ true → if_between 0 most n ≡ Some n
 up_to most n high = between 0 most n (omega arith) (leb-true n most high)
@@ -73,50 +70,58 @@ points_back (pos n) within =
         grind (arith, ints)
 points_back (negsuc n) within = ap (λ b. cond b (Some (negsuc n)) None) within
 
-pub clubs_back : (clubs : List ℕ) → list_all is_club_number clubs ≡ true
-    → listed_clubs (items_of (map (λ club. number (unsigned (number_in_text club))) clubs))
+pub clubs_back : (most : ℕ) (clubs : List ℕ) → list_all (is_one_of most) clubs ≡ true
+    → listed_clubs most (items_of (map (λ club. number (unsigned (number_in_text club))) clubs))
     ≡ Some clubs
-clubs_back [] all = refl
-clubs_back (club ∷ clubs) all =
-    let parts = and_parts (is_club_number club) (list_all is_club_number clubs) all in
-    let rest = listed_clubs
+clubs_back most [] all = refl
+clubs_back most (club ∷ clubs) all =
+    let parts = and_parts (is_one_of most club) (list_all (is_one_of most) clubs) all in
+    let rest = listed_clubs most
     (items_of (map (λ club. number (unsigned (number_in_text club))) clubs)) in
     ap (λ first. option_and_then (λ c. option_map (λ cs. c ∷ cs) rest) first)
-    (club_back club parts.0)
-    ∙ ap (option_map (λ cs. club ∷ cs)) (clubs_back clubs parts.1)
+    (number_back most club parts.0)
+    ∙ ap (option_map (λ cs. club ∷ cs)) (clubs_back most clubs parts.1)
 
 set_back : (set : ClubSet) → is_set_in_range set ≡ true → is_set_kept set ≡ true
     → option_and_then set_listed
-    (listed_clubs (items_of (map (λ club. number (unsigned (number_in_text club))) (clubs_in set))))
+    (listed_clubs most_clubs
+    (items_of (map (λ club. number (unsigned (number_in_text club))) (clubs_in set))))
     ≡ Some set
 set_back set within kept =
     let parts = and_parts (has_member (clubs_in set)) (list_all is_club_number (clubs_in set))
     within in
-    ap (option_and_then set_listed) (clubs_back (clubs_in set) parts.1)
+    ap (option_and_then set_listed) (clubs_back most_clubs (clubs_in set) parts.1)
     ∙ set_listed-clubs_in set (ltb-true set.bits (2 ^ 32) kept) parts.0 parts.1
 
-bounded_back : (test : ℕ → ℕ → Test) (fixture most : ℕ)
-    → (is_fixture_number fixture && is_goal_bound most) ≡ true
+bounded_back : (test : ℕ → ℕ → Test) (fixtures fixture most : ℕ)
+    → (is_one_of fixtures fixture && is_goal_bound most) ≡ true
     → option_and_then (λ f. option_map (test f) (if_between 0 most_goal_bound most))
-    (option_map number_here (if_between 1 most_fixtures (number_in_text fixture)))
+    (option_map number_here (if_between 1 fixtures (number_in_text fixture)))
     ≡ Some (test fixture most)
-bounded_back test fixture most within =
-    let parts = and_parts (is_fixture_number fixture) (is_goal_bound most) within in
+bounded_back test fixtures fixture most within =
+    let parts = and_parts (is_one_of fixtures fixture) (is_goal_bound most) within in
     ap (option_and_then (λ f. option_map (test f) (if_between 0 most_goal_bound most)))
-    (fixture_back fixture parts.0)
+    (number_back fixtures fixture parts.0)
     ∙ ap (option_map (test fixture)) (up_to most_goal_bound most parts.1)
+
+-- a test of one of so many fixtures or clubs
+pub test_below_back : (fixtures clubs : ℕ) (name : List ℕ) (test : Test)
+    → is_test_below fixtures clubs test ≡ true
+    → test_below_in fixtures clubs (parts_value (word name ∷ test_parts test)) ≡ Some test
+test_below_back fixtures clubs name (Home fixture) within =
+    ap (option_map (λ f. Home f)) (number_back fixtures fixture within)
+test_below_back fixtures clubs name (Draw fixture) within =
+    ap (option_map (λ f. Draw f)) (number_back fixtures fixture within)
+test_below_back fixtures clubs name (HomeMost fixture most) within =
+    bounded_back (λ f most. HomeMost f most) fixtures fixture most within
+test_below_back fixtures clubs name (AwayMost fixture most) within =
+    bounded_back (λ f most. AwayMost f most) fixtures fixture most within
+test_below_back fixtures clubs name (Rival club) within =
+    ap (option_map (λ c. Rival c)) (number_back clubs club within)
 
 test_back : (name : List ℕ) (test : Test) → is_test_in_range test ≡ true
     → test_in (parts_value (word name ∷ test_parts test)) ≡ Some test
-test_back name (Home fixture) within =
-    ap (option_map (λ f. Home f)) (fixture_back fixture within)
-test_back name (Draw fixture) within =
-    ap (option_map (λ f. Draw f)) (fixture_back fixture within)
-test_back name (HomeMost fixture most) within =
-    bounded_back (λ f most. HomeMost f most) fixture most within
-test_back name (AwayMost fixture most) within =
-    bounded_back (λ f most. AwayMost f most) fixture most within
-test_back name (Rival club) within = ap (option_map (λ c. Rival c)) (club_back club within)
+test_back name test within = test_below_back most_fixtures most_clubs name test within
 
 reason_back : (name : List ℕ) (reason : Reason) → is_reason_in_range reason ≡ true
     → is_reason_kept reason ≡ true
@@ -148,7 +153,7 @@ score_back fixture home away within =
     let parts = and_parts (is_fixture_number fixture) (nat_le home 99 && nat_le away 99) within in
     let sides = and_parts (nat_le home 99) (nat_le away 99) parts.1 in
     ap (option_and_then (λ f. option_and_then (λ h. option_map (λ a. scored f h a)
-    (if_between 0 99 away)) (if_between 0 99 home))) (fixture_back fixture parts.0)
+    (if_between 0 99 away)) (if_between 0 99 home))) (number_back most_fixtures fixture parts.0)
     ∙ ap (option_and_then (λ h. option_map (λ a. scored fixture h a) (if_between 0 99 away)))
     (up_to 99 home sides.0)
     ∙ ap (option_map (λ a. scored fixture home a)) (up_to 99 away sides.1)
@@ -179,4 +184,5 @@ line_back (line.Finish Outside) within kept = refl
 line_back (line.Score fixture score) within kept =
     score_back fixture score.home score.away within
 line_back (line.Lots lots) within kept =
-    ap (option_map (λ clubs. line.Lots (record { list = clubs }))) (clubs_back lots.list within)
+    ap (option_map (λ clubs. line.Lots (record { list = clubs })))
+    (clubs_back most_clubs lots.list within)

@@ -10,6 +10,7 @@ use Rattle.league_core.specs.declared.club_set.ClubSet.{ClubSet}
 use Rattle.league_core.specs.declared.zone.Test.{Test}
 use Rattle.league_core.specs.declared.zone.Reason.{Reason}
 use Rattle.league_core.specs.declared.zone.Reason.TheVariants.{Low, High}
+use Rattle.league_core.specs.game.Limits.{most_clubs, most_fixtures}
 use Rattle.cert_text.specs.declared.proof_line.ProofLine.{ProofLine}
 use Rattle.cert_text.specs.declared.proof_line.ProofLine.TheVariants as line
 use Rattle.cert_text.specs.Lines.{Part, word, whole, clubs, number_in_text, part_text, array_text}
@@ -51,12 +52,13 @@ line_in-rest x name parts text shown within kept is =
     ∙ ap line_in (text_of_named name parts ∙ ap (λ ps. array_text (map part_text ps)) (sym shown))
     ∙ line_in-written x within kept
 
-pub line_in-split : (test : Test) (text : List ℕ) → IsTestAtEnd text test
+pub line_in-split : (test : Test) (text : List ℕ) → IsTestAtEnd most_fixtures most_clubs text test
     → line_in (text_named (codes "split") text) ≡ Some (line.Split test)
 line_in-split test text told =
     line_in-rest (line.Split test) (codes "split") (test_parts test) text refl told.0 refl told.1
 
-pub line_in-new_split : (test : Test) (text : List ℕ) → IsTestAtEnd text test
+pub line_in-new_split : (test : Test) (text : List ℕ)
+    → IsTestAtEnd most_fixtures most_clubs text test
     → line_in (text_named (codes "new_split") text) ≡ Some (line.NewSplit test)
 line_in-new_split test text told =
     line_in-rest (line.NewSplit test) (codes "new_split") (test_parts test) text refl told.0 refl
@@ -85,9 +87,9 @@ bare_at_end reason behind text within kept plain new is = record {
 -- a set that is read from a list of clubs
 set_back : (list : List ℕ) (set : ClubSet) → list_all is_club_number list ≡ true
     → set_listed list ≡ Some set
-    → option_and_then set_listed (listed_clubs
+    → option_and_then set_listed (listed_clubs most_clubs
     (items_of (map (λ club. number (unsigned (number_in_text club))) list))) ≡ Some set
-set_back list set known is = ap (option_and_then set_listed) (clubs_back list known) ∙ is
+set_back list set known is = ap (option_and_then set_listed) (clubs_back most_clubs list known) ∙ is
 
 pub low_at_end : (text : List ℕ) (set : ClubSet) → IsSetAtEnd text set
     → IsReasonAtEnd (next_named (codes "low") text) (Low set)
@@ -99,12 +101,12 @@ low_at_end text set told =
     record {
       leaf = ap (λ t. line_in (text_named (codes "leaf") (next_named (codes "low") t))) told.1.1
           ∙ line_in-parts (word (codes "leaf") ∷ word (codes "low") ∷ clubs list ∷ [])
-          refl all all
+          refl all
           ∙ ap (λ found. option_map (λ r. line.Leaf r) (option_map (λ s. Low s) found)) back;
       new_leaf = ap (λ t. line_in (text_named (codes "new_leaf") (next_named (codes "low") t)))
           told.1.1
           ∙ line_in-parts (word (codes "new_leaf") ∷ word (codes "low") ∷ clubs list ∷ [])
-          refl all all
+          refl all
           ∙ ap (λ found. option_map (λ r. line.NewLeaf r) (option_map (λ s. Low s) found)) back;
     }
 
@@ -118,12 +120,12 @@ high_at_end text set told =
     record {
       leaf = ap (λ t. line_in (text_named (codes "leaf") (next_named (codes "high") t))) told.1.1
           ∙ line_in-parts (word (codes "leaf") ∷ word (codes "high") ∷ clubs list ∷ [])
-          refl all all
+          refl all
           ∙ ap (λ found. option_map (λ r. line.Leaf r) (option_map (λ s. High s) found)) back;
       new_leaf = ap (λ t. line_in (text_named (codes "new_leaf") (next_named (codes "high") t)))
           told.1.1
           ∙ line_in-parts (word (codes "new_leaf") ∷ word (codes "high") ∷ clubs list ∷ [])
-          refl all all
+          refl all
           ∙ ap (λ found. option_map (λ r. line.NewLeaf r) (option_map (λ s. High s) found)) back;
     }
 
@@ -166,7 +168,7 @@ score_at_end n home away text first second behind told goals others ends =
     ∙ ap (λ k. text_of_rest (whole k ∷ whole home ∷ whole away ∷ [])) (sym (from_one n told.0)))
 
 -- lots
-pub lots_at_end : (text list : List ℕ) → AreClubsAtEnd text list
+pub lots_at_end : (text list : List ℕ) → AreClubsAtEnd most_clubs text list
     → line_in (text_named (codes "lots") text) ≡ Some (line.Lots (record { list = list }))
 lots_at_end text list told =
     line_in-rest (line.Lots (record { list = list })) (codes "lots") (clubs list ∷ []) text refl

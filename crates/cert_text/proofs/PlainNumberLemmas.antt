@@ -4,7 +4,7 @@ use Rattle.std.proofs.Common.{append_assoc, decimal}
 use Rattle.std.specs.List.{list_all, join_with_byte}
 use Rattle.std.proofs.lemmas.Bool.{and_parts, and_from}
 use Rattle.cert_text.specs.Lines.{number_in_text}
-use Rattle.cert_text.specs.Ranges.{is_club_number}
+use Rattle.cert_text.specs.Ranges.{is_one_of}
 use Rattle.cert_text.specs.inside.PlainForms.{AreClubsAtEnd}
 use Rattle.league_core.proofs.plain.TruthValues.{true_and_true}
 
@@ -46,24 +46,24 @@ clubs_so_far-last (first ∷ next ∷ list) club rest =
     (map (λ club. decimal (number_in_text club)) (next ∷ (list ++ club ∷ [])))) rest)
 
 -- known clubs and one more
-pub clubs_known : (list : List ℕ) (club : ℕ) → list_all is_club_number list ≡ true
-    → is_club_number club ≡ true → list_all is_club_number (list ++ club ∷ []) ≡ true
-clubs_known [] club all known = true_and_true (is_club_number club) known
-clubs_known (first ∷ list) club all known =
-    let parts = and_parts (is_club_number first) (list_all is_club_number list) all in
-    and_from (is_club_number first) (list_all is_club_number (list ++ club ∷ [])) parts.0
-    (clubs_known list club parts.1 known)
+pub clubs_known : (most : ℕ) (list : List ℕ) (club : ℕ) → list_all (is_one_of most) list ≡ true
+    → is_one_of most club ≡ true → list_all (is_one_of most) (list ++ club ∷ []) ≡ true
+clubs_known most [] club all known = true_and_true (is_one_of most club) known
+clubs_known most (first ∷ list) club all known =
+    let parts = and_parts (is_one_of most first) (list_all (is_one_of most) list) all in
+    and_from (is_one_of most first) (list_all (is_one_of most) (list ++ club ∷ [])) parts.0
+    (clubs_known most list club parts.1 known)
 
 -- one club more, and a comma
-pub clubs_go_on : (list : List ℕ) (club : ℕ) (text rest more items next : List ℕ)
-    → list_all is_club_number list ≡ true
+pub clubs_go_on : (most : ℕ) (list : List ℕ) (club : ℕ) (text rest more items next : List ℕ)
+    → list_all (is_one_of most) list ≡ true
     → text ≡ 44 ∷ 91 ∷ (clubs_so_far list ++ rest)
-    → is_club_number club ≡ true → rest ≡ decimal (number_in_text club) ++ more
+    → is_one_of most club ≡ true → rest ≡ decimal (number_in_text club) ++ more
     → more ≡ 44 ∷ next → items ≡ list ++ club ∷ []
-    → (list_all is_club_number items ≡ true)
+    → (list_all (is_one_of most) items ≡ true)
     × (text ≡ 44 ∷ 91 ∷ (clubs_so_far items ++ next))
-clubs_go_on list club text rest more items next all is known shown goes pushed = (
-  ap (list_all is_club_number) pushed ∙ clubs_known list club all known,
+clubs_go_on most list club text rest more items next all is known shown goes pushed = (
+  ap (list_all (is_one_of most)) pushed ∙ clubs_known most list club all known,
   is
       ∙ ap (λ t. 44 ∷ 91 ∷ (clubs_so_far list ++ t))
       (shown ∙ ap (λ t. decimal (number_in_text club) ++ t) goes)
@@ -72,15 +72,15 @@ clubs_go_on list club text rest more items next all is known shown goes pushed =
 )
 
 -- the last one, and the end
-pub clubs_end : (list : List ℕ) (club : ℕ) (text rest more items : List ℕ)
-    → list_all is_club_number list ≡ true
+pub clubs_end : (most : ℕ) (list : List ℕ) (club : ℕ) (text rest more items : List ℕ)
+    → list_all (is_one_of most) list ≡ true
     → text ≡ 44 ∷ 91 ∷ (clubs_so_far list ++ rest)
-    → is_club_number club ≡ true → rest ≡ decimal (number_in_text club) ++ more
-    → more ≡ 93 ∷ 93 ∷ [] → items ≡ list ++ club ∷ [] → AreClubsAtEnd text items
-clubs_end list club text rest more items all is known shown ends pushed =
+    → is_one_of most club ≡ true → rest ≡ decimal (number_in_text club) ++ more
+    → more ≡ 93 ∷ 93 ∷ [] → items ≡ list ++ club ∷ [] → AreClubsAtEnd most text items
+clubs_end most list club text rest more items all is known shown ends pushed =
     let shown_clubs : List ℕ → List ℕ =
     λ cs. join_with_byte 44 (map (λ club. decimal (number_in_text club)) cs) in (
-      ap (list_all is_club_number) pushed ∙ clubs_known list club all known,
+      ap (list_all (is_one_of most)) pushed ∙ clubs_known most list club all known,
       is
           ∙ ap (λ t. 44 ∷ 91 ∷ (clubs_so_far list ++ t))
           (shown ∙ ap (λ t. decimal (number_in_text club) ++ t) ends)

@@ -20,13 +20,15 @@ use Rattle.league_core.specs.declared.zone.Test.{Test}
 use Rattle.league_core.specs.declared.zone.Test.TheVariants.{Home, Draw, HomeMost, AwayMost, Rival}
 use Rattle.league_core.specs.declared.zone.Reason.{Reason}
 use Rattle.league_core.specs.declared.zone.Reason.TheVariants.{Count, Window, Low, High, Tie}
+use Rattle.league_core.specs.game.Limits.{most_clubs, most_fixtures}
 use Rattle.cert_text.specs.declared.proof_line.ProofLine.{ProofLine}
 use Rattle.cert_text.specs.declared.proof_line.ProofLine.TheVariants as line
 use Rattle.cert_text.specs.Lines.{Part, word, whole, points, clubs, number_in_text, claim_word}
 use Rattle.cert_text.specs.Lines.{test_parts, reason_parts, parts_of, array_text, part_text}
 use Rattle.cert_text.specs.Lines.{is_printed, text_of_proof_line}
-use Rattle.cert_text.specs.Ranges.{is_fixture_number, is_club_number, is_goal_bound, are_points}
-use Rattle.cert_text.specs.Ranges.{is_test_in_range, is_set_in_range, is_reason_in_range}
+use Rattle.cert_text.specs.Ranges.{is_one_of, is_fixture_number, is_club_number, is_goal_bound}
+use Rattle.cert_text.specs.Ranges.{are_points, is_test_below, is_set_in_range}
+use Rattle.cert_text.specs.Ranges.{is_reason_in_range}
 use Rattle.cert_text.specs.Ranges.{is_in_range}
 use Rattle.league_core.proofs.plain.TruthValues.{true_and_true, two_and_true}
 
@@ -72,12 +74,16 @@ array_printed text known each xs all =
     both_printed (91 ∷ join_with_byte 44 (map text xs)) (93 ∷ [])
     (items_printed text known each xs all) refl
 
--- a part whose word is printed and whose numbers are small
+-- a part whose word is printed and whose numbers are small, those of clubs below this bound
+abbrev pub is_small_below : ℕ → Part → Bool
+is_small_below most (word name) = list_all is_printed name
+is_small_below most (whole n) = nat_lt n 10000
+is_small_below most (points n) = are_points n
+is_small_below most (clubs list) = list_all (is_one_of most) list
+
+-- those of a league
 abbrev pub is_small_part : Part → Bool
-is_small_part (word name) = list_all is_printed name
-is_small_part (whole n) = nat_lt n 10000
-is_small_part (points n) = are_points n
-is_small_part (clubs list) = list_all is_club_number list
+is_small_part part = is_small_below most_clubs part
 
 points_printed : (n : ℤ) → are_points n ≡ true → list_all is_printed (signed_decimal n) ≡ true
 points_printed (pos n) within =
@@ -93,59 +99,58 @@ points_printed (negsuc n) within =
     small : (k : ℕ) → int_le (negsuc 98) (negsuc k) ≡ true → suc k < 10000
     small k h = grind (arith, ints)
 
-part_printed : (part : Part) → is_small_part part ≡ true
+part_printed : (most : ℕ) → most < 10000 → (part : Part) → is_small_below most part ≡ true
     → list_all is_printed (part_text part) ≡ true
-part_printed (word name) small = both_printed (34 ∷ name) (34 ∷ []) small refl
-part_printed (whole n) small = small_printed n (ltb-true n 10000 small)
-part_printed (points n) small = points_printed n small
-part_printed (clubs list) small =
-    array_printed (λ club. decimal (number_in_text club)) is_club_number
-    (λ club known. club_printed club (ltb-true club 24 known)) list small
+part_printed most few (word name) small = both_printed (34 ∷ name) (34 ∷ []) small refl
+part_printed most few (whole n) small = small_printed n (ltb-true n 10000 small)
+part_printed most few (points n) small = points_printed n small
+part_printed most few (clubs list) small =
+    array_printed (λ club. decimal (number_in_text club)) (is_one_of most)
+    (λ club known. club_printed club (ltb-true club most known)) list small
   where
-    club_printed : (club : ℕ) → club < 24
+    club_printed : (club : ℕ) → club < most
         → list_all is_printed (decimal (number_in_text club)) ≡ true
-    club_printed club below = small_printed (number_in_text club) (omega arith)
+    club_printed club below = small_printed (number_in_text club) (omega (arith, below, few))
 
 small_claim : (claim : Claim) → list_all is_printed (claim_word claim) ≡ true
 small_claim Inside = refl
 small_claim Outside = refl
 
-pub small_fixture : (fixture : ℕ) → is_fixture_number fixture ≡ true
-    → nat_lt (number_in_text fixture) 10000 ≡ true
-small_fixture fixture known =
-    let below = ltb-true fixture 600 known in
-    lt-ltb (number_in_text fixture) 10000 (omega arith)
-
-small_club : (club : ℕ) → is_club_number club ≡ true → nat_lt (number_in_text club) 10000 ≡ true
-small_club club known =
-    let below = ltb-true club 24 known in
-    lt-ltb (number_in_text club) 10000 (omega arith)
+pub small_number : (most n : ℕ) → most < 10000 → is_one_of most n ≡ true
+    → nat_lt (number_in_text n) 10000 ≡ true
+small_number most n few known =
+    let below = ltb-true n most known in
+    lt-ltb (number_in_text n) 10000 (omega (arith, below, few))
 
 -- at most 99 goals
-pub small_goals : (goals most : ℕ) → most < 10000 → nat_le goals most ≡ true
+small_goals : (goals most : ℕ) → most < 10000 → nat_le goals most ≡ true
     → nat_lt goals 10000 ≡ true
 small_goals goals most small known =
     let within = leb-true goals most known in
     lt-ltb goals 10000 (omega arith)
 
-small_test : (test : Test) → is_test_in_range test ≡ true
-    → list_all is_small_part (test_parts test) ≡ true
-small_test (Home fixture) known = true_and_true (nat_lt (number_in_text fixture) 10000)
-    (small_fixture fixture known)
-small_test (Draw fixture) known = true_and_true (nat_lt (number_in_text fixture) 10000)
-    (small_fixture fixture known)
-small_test (HomeMost fixture most) known =
-    let parts = and_parts (is_fixture_number fixture) (is_goal_bound most) known in
+-- the numbers of a test of one of so many fixtures or clubs
+pub small_test : (fixtures club_count : ℕ) → fixtures < 10000 → club_count < 10000 → (test : Test)
+    → is_test_below fixtures club_count test ≡ true
+    → list_all (is_small_below club_count) (test_parts test) ≡ true
+small_test fixtures club_count short few (Home fixture) known =
+    true_and_true (nat_lt (number_in_text fixture) 10000)
+    (small_number fixtures fixture short known)
+small_test fixtures club_count short few (Draw fixture) known =
+    true_and_true (nat_lt (number_in_text fixture) 10000)
+    (small_number fixtures fixture short known)
+small_test fixtures club_count short few (HomeMost fixture most) known =
+    let parts = and_parts (is_one_of fixtures fixture) (is_goal_bound most) known in
     two_and_true (nat_lt (number_in_text fixture) 10000) (nat_lt most 10000)
-    (small_fixture fixture parts.0) (small_goals most 98 (omega arith) parts.1)
-small_test (AwayMost fixture most) known =
-    let parts = and_parts (is_fixture_number fixture) (is_goal_bound most) known in
+    (small_number fixtures fixture short parts.0) (small_goals most 98 (omega arith) parts.1)
+small_test fixtures club_count short few (AwayMost fixture most) known =
+    let parts = and_parts (is_one_of fixtures fixture) (is_goal_bound most) known in
     two_and_true (nat_lt (number_in_text fixture) 10000) (nat_lt most 10000)
-    (small_fixture fixture parts.0) (small_goals most 98 (omega arith) parts.1)
-small_test (Rival club) known = true_and_true (nat_lt (number_in_text club) 10000)
-    (small_club club known)
+    (small_number fixtures fixture short parts.0) (small_goals most 98 (omega arith) parts.1)
+small_test fixtures club_count short few (Rival club) known =
+    true_and_true (nat_lt (number_in_text club) 10000) (small_number club_count club few known)
 
-pub small_set : (set : ClubSet) → is_set_in_range set ≡ true
+small_set : (set : ClubSet) → is_set_in_range set ≡ true
     → (list_all is_club_number (clubs_in set) && true) ≡ true
 small_set set known =
     true_and_true (list_all is_club_number (clubs_in set))
@@ -159,7 +164,7 @@ small_reason (Low set) known = small_set set known
 small_reason (High set) known = small_set set known
 small_reason Tie known = refl
 
-pub small_score : (fixture : ℕ) (score : Score)
+small_score : (fixture : ℕ) (score : Score)
     → (is_fixture_number fixture && is_score score) ≡ true
     → (nat_lt (number_in_text fixture) 10000
     && (nat_lt score.home 10000 && (nat_lt score.away 10000 && true))) ≡ true
@@ -167,7 +172,8 @@ small_score fixture score known =
     let parts = and_parts (is_fixture_number fixture) (is_score score) known in
     let goals = and_parts (nat_le score.home 99) (nat_le score.away 99) parts.1 in
     and_from (nat_lt (number_in_text fixture) 10000)
-    (nat_lt score.home 10000 && (nat_lt score.away 10000 && true)) (small_fixture fixture parts.0)
+    (nat_lt score.home 10000 && (nat_lt score.away 10000 && true))
+    (small_number most_fixtures fixture (omega arith) parts.0)
     (two_and_true (nat_lt score.home 10000) (nat_lt score.away 10000)
     (small_goals score.home 99 (omega arith) goals.0)
     (small_goals score.away 99 (omega arith) goals.1))
@@ -181,8 +187,10 @@ small_line (line.SpentWindow claim low high) known =
     let ends = and_parts (are_points low) (are_points high) known in
     and_from (list_all is_printed (claim_word claim)) (are_points low && (are_points high && true))
     (small_claim claim) (two_and_true (are_points low) (are_points high) ends.0 ends.1)
-small_line (line.Split test) known = small_test test known
-small_line (line.NewSplit test) known = small_test test known
+small_line (line.Split test) known =
+    small_test most_fixtures most_clubs (omega arith) (omega arith) test known
+small_line (line.NewSplit test) known =
+    small_test most_fixtures most_clubs (omega arith) (omega arith) test known
 small_line (line.Leaf reason) known = small_reason reason known
 small_line (line.NewLeaf reason) known = small_reason reason known
 small_line line.OpenLeaf known = refl
@@ -192,11 +200,13 @@ small_line (line.Score fixture score) known = small_score fixture score known
 small_line (line.Lots lots) known = true_and_true (list_all is_club_number lots.list) known
 
 -- the text of small parts is printed
-pub parts_printed : (parts : List Part) → list_all is_small_part parts ≡ true
+pub parts_printed : (most : ℕ) → most < 10000 → (parts : List Part)
+    → list_all (is_small_below most) parts ≡ true
     → list_all is_printed (array_text (map part_text parts)) ≡ true
-parts_printed parts small = array_printed part_text is_small_part part_printed parts small
+parts_printed most few parts small =
+    array_printed part_text (is_small_below most) (part_printed most few) parts small
 
 -- the text of a line in range is printed
 pub line_printed : (x : ProofLine) → is_in_range x ≡ true
     → list_all is_printed (text_of_proof_line x) ≡ true
-line_printed x known = parts_printed (parts_of x) (small_line x known)
+line_printed x known = parts_printed most_clubs (omega arith) (parts_of x) (small_line x known)

@@ -1,8 +1,8 @@
 -- The compact JSON of a line's parts is read as what it was made of, so the text of a line is read
 -- as the line.
-use Rattle.std.proofs.Common.{◌≡◌, ◌<◌, ◌≤◌, ◌^◌, ℕ, suc, ℤ, pos, negsuc, Bool, true, List, [], ◌∷◌}
+use Rattle.std.proofs.Common.{◌≡◌, ◌<◌, ◌≤◌, ◌^◌, ℕ, suc, ℤ, pos, negsuc, true, List, [], ◌∷◌}
 use Rattle.std.proofs.Common.{◌++◌, map, Some, option_map, refl, sym, ap, ◌∙◌, arith, append-nil}
-use Rattle.std.proofs.Common.{◌&&◌, nat_lt, nat_le}
+use Rattle.std.proofs.Common.{nat_lt, nat_le}
 use Rattle.std.specs.Prelude.{option_and_then, int_le}
 use Rattle.std.specs.List.{list_all}
 use Rattle.std.proofs.lemmas.Bool.{and_parts, and_from, ltb-true, lt-ltb}
@@ -21,26 +21,20 @@ use Rattle.serde_json.specs.View.{items_of}
 use Rattle.serde_json.specs.Find.{of_integer}
 use Rattle.serde_json.proofs.Texts.{print-outline}
 use Rattle.serde_json.proofs.Numbers.{number_of-decimal, number_of-negative}
-use Rattle.league_core.specs.declared.zone.Test.{Test}
-use Rattle.league_core.specs.declared.zone.Test.TheVariants.{Home, Draw, HomeMost, AwayMost, Rival}
-use Rattle.league_core.specs.declared.zone.Reason.{Reason}
-use Rattle.league_core.specs.declared.zone.Reason.TheVariants.{Count, Window, Low, High, Tie}
+use Rattle.league_core.specs.game.Limits.{most_clubs}
 use Rattle.cert_text.specs.declared.proof_line.ProofLine.{ProofLine}
-use Rattle.cert_text.specs.declared.proof_line.ProofLine.TheVariants as line
 use Rattle.cert_text.specs.Lines.{Part, word, whole, points, clubs, number_in_text, parts_of}
-use Rattle.cert_text.specs.Lines.{test_parts, reason_parts, array_text, part_text}
+use Rattle.cert_text.specs.Lines.{array_text, part_text}
 use Rattle.cert_text.specs.Lines.{text_of_proof_line, is_printed}
 use Rattle.cert_text.specs.inside.Values.{part_value, parts_value}
-use Rattle.cert_text.specs.Ranges.{is_in_range, is_fixture_number, is_club_number, is_goal_bound}
-use Rattle.cert_text.specs.Ranges.{are_points, is_test_in_range, is_reason_in_range}
+use Rattle.cert_text.specs.Ranges.{is_one_of, is_in_range, are_points}
 use Rattle.cert_text.specs.inside.Widths.{is_line_kept}
-use Rattle.cert_text.specs.Forms.{line_in, line_of_value}
+use Rattle.cert_text.specs.Forms.{json_of, line_in, line_of_value}
 use Rattle.cert_text.proofs.LineLemmas.{is_plain_part, text_of_parts, plain_line}
-use Rattle.cert_text.proofs.PrintedLemmas.{small_fixture, small_goals, is_small_part, small_set}
-use Rattle.cert_text.proofs.PrintedLemmas.{small_score, small_line, parts_printed}
+use Rattle.cert_text.proofs.PrintedLemmas.{is_small_below, is_small_part, small_line}
+use Rattle.cert_text.proofs.PrintedLemmas.{parts_printed}
 use Rattle.cert_text.proofs.ReadLemmas.{json_of-utf8}
 use Rattle.cert_text.proofs.FormLemmas.{line_back}
-use Rattle.league_core.proofs.plain.TruthValues.{true_and_true}
 
 -- ---- any value
 
@@ -110,13 +104,6 @@ deeper d least most less stands =
     let deep = stands.shallow in
     record { numbers = stands.numbers; same = stands.same; shallow = omega arith }
 
--- a part whose numbers are small
-abbrev pub is_narrow : Part → Bool
-is_narrow (word name) = true
-is_narrow (whole n) = nat_lt n 10000
-is_narrow (points n) = are_points n
-is_narrow (clubs list) = list_all is_club_number list
-
 points_stand : (n : ℤ) → are_points n ≡ true → Stands (number (of_integer n)) 0
 points_stand (pos n) within =
     let ends = and_parts (int_le (negsuc 98) (pos n)) (int_le (pos n) (pos 1800)) within in
@@ -137,75 +124,31 @@ points_stand (negsuc n) within =
     small : (k : ℕ) → int_le (negsuc 98) (negsuc k) ≡ true → suc k < 10000
     small k h = grind (arith, ints)
 
-clubs_stand : (list : List ℕ) → list_all is_club_number list ≡ true
+clubs_stand : (most : ℕ) → most < 10000 → (list : List ℕ) → list_all (is_one_of most) list ≡ true
     → AllStand (items_of (map (λ club. number (unsigned (number_in_text club))) list)) 0
-clubs_stand [] known = none_stand 0
-clubs_stand (club ∷ list) known =
-    let parts = and_parts (is_club_number club) (list_all is_club_number list) known in
-    let below = ltb-true club 24 parts.0 in
-    more_stand _ _ 0 (number_stands (number_in_text club) (omega arith)) (clubs_stand list parts.1)
+clubs_stand most few [] known = none_stand 0
+clubs_stand most few (club ∷ list) known =
+    let parts = and_parts (is_one_of most club) (list_all (is_one_of most) list) known in
+    let below = ltb-true club most parts.0 in
+    more_stand _ _ 0 (number_stands (number_in_text club) (omega (arith, below, few)))
+    (clubs_stand most few list parts.1)
 
-part_stands : (part : Part) → is_narrow part ≡ true → Stands (part_value part) 1
-part_stands (word name) known = record { numbers = tt; same = refl; shallow = omega arith }
-part_stands (whole n) known =
+part_stands : (most : ℕ) → most < 10000 → (part : Part) → is_small_below most part ≡ true
+    → Stands (part_value part) 1
+part_stands most few (word name) known =
+    record { numbers = tt; same = refl; shallow = omega arith }
+part_stands most few (whole n) known =
     let below = ltb-true n 10000 known in
     deeper _ 0 1 (omega arith) (number_stands n (omega arith))
-part_stands (points n) known = deeper _ 0 1 (omega arith) (points_stand n known)
-part_stands (clubs list) known = list_stands _ 0 (clubs_stand list known)
+part_stands most few (points n) known = deeper _ 0 1 (omega arith) (points_stand n known)
+part_stands most few (clubs list) known = list_stands _ 0 (clubs_stand most few list known)
 
-parts_stand : (parts : List Part) → list_all is_narrow parts ≡ true
-    → AllStand (items_of (map part_value parts)) 1
-parts_stand [] known = none_stand 1
-parts_stand (part ∷ parts) known =
-    let both = and_parts (is_narrow part) (list_all is_narrow parts) known in
-    more_stand _ _ 1 (part_stands part both.0) (parts_stand parts both.1)
-
--- ---- the parts of a line in range are narrow
-
-narrow_bounded : (fixture most : ℕ) → (is_fixture_number fixture && is_goal_bound most) ≡ true
-    → (nat_lt (number_in_text fixture) 10000 && (nat_lt most 10000 && true)) ≡ true
-narrow_bounded fixture most known =
-    let parts = and_parts (is_fixture_number fixture) (is_goal_bound most) known in
-    and_from (nat_lt (number_in_text fixture) 10000) (nat_lt most 10000 && true)
-    (small_fixture fixture parts.0)
-    (true_and_true (nat_lt most 10000) (small_goals most 98 (omega arith) parts.1))
-
-narrow_test : (test : Test) → is_test_in_range test ≡ true
-    → list_all is_narrow (test_parts test) ≡ true
-narrow_test (Home fixture) known =
-    true_and_true (nat_lt (number_in_text fixture) 10000) (small_fixture fixture known)
-narrow_test (Draw fixture) known =
-    true_and_true (nat_lt (number_in_text fixture) 10000) (small_fixture fixture known)
-narrow_test (HomeMost fixture most) known = narrow_bounded fixture most known
-narrow_test (AwayMost fixture most) known = narrow_bounded fixture most known
-narrow_test (Rival club) known =
-    let below = ltb-true club 24 known in
-    true_and_true (nat_lt (number_in_text club) 10000) (lt-ltb (number_in_text club) 10000
-    (omega arith))
-
-narrow_reason : (reason : Reason) → is_reason_in_range reason ≡ true
-    → list_all is_narrow (reason_parts reason) ≡ true
-narrow_reason Count known = refl
-narrow_reason Window known = refl
-narrow_reason (Low set) known = small_set set known
-narrow_reason (High set) known = small_set set known
-narrow_reason Tie known = refl
-
-narrow_line : (x : ProofLine) → is_in_range x ≡ true → list_all is_narrow (parts_of x) ≡ true
-narrow_line (line.Tree claim) known = refl
-narrow_line (line.Spent claim) known = refl
-narrow_line (line.SpentWindow claim low high) known =
-    let ends = and_parts (are_points low) (are_points high) known in
-    and_from (are_points low) (are_points high && true) ends.0
-    (true_and_true (are_points high) ends.1)
-narrow_line (line.Split test) known = narrow_test test known
-narrow_line (line.NewSplit test) known = narrow_test test known
-narrow_line (line.Leaf reason) known = narrow_reason reason known
-narrow_line (line.NewLeaf reason) known = narrow_reason reason known
-narrow_line line.OpenLeaf known = refl
-narrow_line (line.Finish claim) known = refl
-narrow_line (line.Score fixture score) known = small_score fixture score known
-narrow_line (line.Lots lots) known = true_and_true (list_all is_club_number lots.list) known
+parts_stand : (most : ℕ) → most < 10000 → (parts : List Part)
+    → list_all (is_small_below most) parts ≡ true → AllStand (items_of (map part_value parts)) 1
+parts_stand most few [] known = none_stand 1
+parts_stand most few (part ∷ parts) known =
+    let both = and_parts (is_small_below most part) (list_all (is_small_below most) parts) known in
+    more_stand _ _ 1 (part_stands most few part both.0) (parts_stand most few parts both.1)
 
 -- ---- the text of a line
 
@@ -220,32 +163,41 @@ ascii_printed (byte ∷ bytes) known =
     (ascii_printed bytes parts.1)
 
 -- the text of parts as JSON is the array of their values
-read-parts : (parts : List Part) → list_all is_plain_part parts ≡ true
-    → list_all is_narrow parts ≡ true
+read-parts : (most : ℕ) → most < 10000 → (parts : List Part) → list_all is_plain_part parts ≡ true
+    → list_all (is_small_below most) parts ≡ true
     → read (array_text (map part_text parts)) ≡ Some (parts_value parts)
-read-parts parts plain narrow =
-    let stands = list_stands (items_of (map part_value parts)) 1 (parts_stand parts narrow) in
+read-parts most few parts plain small =
+    let stands = list_stands (items_of (map part_value parts)) 1 (parts_stand most few parts
+    small) in
     ap read (sym (text_of_parts parts plain))
     ∙ read-compact (parts_value parts) (deeper _ 2 max_depth (omega arith) stands)
 
+-- which is UTF-8
+pub json_of-parts : (most : ℕ) → most < 10000 → (parts : List Part)
+    → list_all is_plain_part parts ≡ true → list_all (is_small_below most) parts ≡ true
+    → json_of (array_text (map part_text parts)) ≡ Some (parts_value parts)
+json_of-parts most few parts plain small =
+    let text = array_text (map part_text parts) in
+    json_of-utf8 text
+    (IsUtf8-are_ascii text (ascii_printed text (parts_printed most few parts small)))
+    ∙ read-parts most few parts plain small
+
 -- and has the form that the array has
 pub line_in-parts : (parts : List Part) → list_all is_plain_part parts ≡ true
-    → list_all is_small_part parts ≡ true → list_all is_narrow parts ≡ true
+    → list_all is_small_part parts ≡ true
     → line_in (array_text (map part_text parts)) ≡ line_of_value (parts_value parts)
-line_in-parts parts plain small narrow =
-    let text = array_text (map part_text parts) in
-    ap (option_and_then line_of_value)
-    (json_of-utf8 text (IsUtf8-are_ascii text (ascii_printed text (parts_printed parts small)))
-    ∙ read-parts parts plain narrow)
+line_in-parts parts plain small =
+    ap (option_and_then line_of_value) (json_of-parts most_clubs (omega arith) parts plain small)
 
 -- the text of a line as JSON is the array of its parts
 pub read-written : (x : ProofLine) → is_in_range x ≡ true
     → read (text_of_proof_line x) ≡ Some (parts_value (parts_of x))
-read-written x within = read-parts (parts_of x) (plain_line x) (narrow_line x within)
+read-written x within =
+    read-parts most_clubs (omega arith) (parts_of x) (plain_line x) (small_line x within)
 
 -- the text of a line is read as the line
 pub line_in-written : (x : ProofLine) → is_in_range x ≡ true → is_line_kept x ≡ true
     → line_in (text_of_proof_line x) ≡ Some x
 line_in-written x within kept =
-    line_in-parts (parts_of x) (plain_line x) (small_line x within) (narrow_line x within)
+    line_in-parts (parts_of x) (plain_line x) (small_line x within)
     ∙ line_back x within kept

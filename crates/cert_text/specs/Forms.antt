@@ -1,5 +1,6 @@
 -- Which proof line a text has the form of. A text is read as JSON, with the spaces that JSON
--- allows; what it then is decides, form by form. The forms are those of the lines' own texts.
+-- allows; what it then is decides, form by form. The forms are those of the lines' own texts. How
+-- many fixtures and clubs a form may name is an argument; the lines are those of a league.
 use Rattle.std.specs.Prelude.{ℕ, List, Option, Some, None, option_map, option_and_then}
 use Rattle.std.specs.Prelude.{if◌then◌else◌, codes}
 use Rattle.std.specs.Str.{bytes_eq, is_utf8}
@@ -10,11 +11,11 @@ use Rattle.league_core.specs.declared.zone.Test.{Test}
 use Rattle.league_core.specs.declared.zone.Test.TheVariants.{Home, Draw, HomeMost, AwayMost, Rival}
 use Rattle.league_core.specs.declared.zone.Reason.{Reason}
 use Rattle.league_core.specs.declared.zone.Reason.TheVariants.{Count, Window, Low, High, Tie}
-use Rattle.league_core.specs.game.Limits.{most_goals}
+use Rattle.league_core.specs.game.Limits.{most_clubs, most_fixtures, most_goals}
 use Rattle.cert_text.specs.declared.proof_line.ProofLine.{ProofLine}
 use Rattle.cert_text.specs.declared.proof_line.ProofLine.TheVariants as line
 use Rattle.cert_text.specs.Ranges.{most_goal_bound}
-use Rattle.cert_text.specs.Places.{is_end_at, word_at, integer_at, fixture_at, club_at, points_at}
+use Rattle.cert_text.specs.Places.{is_end_at, word_at, integer_at, numbered_at, points_at}
 use Rattle.cert_text.specs.Places.{claim_at, clubs_at, set_at}
 
 -- if the array ends at the place, what it is; otherwise it has no such form
@@ -22,48 +23,57 @@ abbrev pub if_ends_at : {A : Type 0} → ℕ → Data → Option A → Option A
 if_ends_at place shown found = if is_end_at place shown then found else None
 
 -- the home side wins
-abbrev pub home_test_in : Data → Option Test
-home_test_in shown =
-    if_ends_at 3 shown (option_map (λ fixture. Home fixture) (fixture_at 2 shown))
+abbrev pub home_test_in : ℕ → Data → Option Test
+home_test_in fixtures shown =
+    if_ends_at 3 shown (option_map (λ fixture. Home fixture) (numbered_at fixtures 2 shown))
 
 -- the match is drawn
-abbrev pub draw_test_in : Data → Option Test
-draw_test_in shown =
-    if_ends_at 3 shown (option_map (λ fixture. Draw fixture) (fixture_at 2 shown))
+abbrev pub draw_test_in : ℕ → Data → Option Test
+draw_test_in fixtures shown =
+    if_ends_at 3 shown (option_map (λ fixture. Draw fixture) (numbered_at fixtures 2 shown))
 
 -- a fixture and a bound on goals
-abbrev pub bounded_test_in : (ℕ → ℕ → Test) → Data → Option Test
-bounded_test_in test shown =
+abbrev pub bounded_test_in : ℕ → (ℕ → ℕ → Test) → Data → Option Test
+bounded_test_in fixtures test shown =
     if_ends_at 4 shown
     (option_and_then
     (λ fixture. option_map (test fixture) (integer_at 3 0 most_goal_bound shown))
-    (fixture_at 2 shown))
+    (numbered_at fixtures 2 shown))
 
 -- the home side scores at most so many goals
-abbrev pub home_most_test_in : Data → Option Test
-home_most_test_in shown = bounded_test_in (λ fixture most. HomeMost fixture most) shown
+abbrev pub home_most_test_in : ℕ → Data → Option Test
+home_most_test_in fixtures shown =
+    bounded_test_in fixtures (λ fixture most. HomeMost fixture most) shown
 
 -- the away side scores at most so many goals
-abbrev pub away_most_test_in : Data → Option Test
-away_most_test_in shown = bounded_test_in (λ fixture most. AwayMost fixture most) shown
+abbrev pub away_most_test_in : ℕ → Data → Option Test
+away_most_test_in fixtures shown =
+    bounded_test_in fixtures (λ fixture most. AwayMost fixture most) shown
 
 -- a rival ranks before the club
-abbrev pub rival_test_in : Data → Option Test
-rival_test_in shown = if_ends_at 3 shown (option_map (λ club. Rival club) (club_at 2 shown))
+abbrev pub rival_test_in : ℕ → Data → Option Test
+rival_test_in clubs shown =
+    if_ends_at 3 shown (option_map (λ club. Rival club) (numbered_at clubs 2 shown))
 
--- the test of this name, with its numbers from the third place on
-abbrev pub test_named : List ℕ → Data → Option Test
-test_named name shown =
-    if bytes_eq name (codes "home") then home_test_in shown
-    else if bytes_eq name (codes "draw") then draw_test_in shown
-    else if bytes_eq name (codes "hg") then home_most_test_in shown
-    else if bytes_eq name (codes "ag") then away_most_test_in shown
-    else if bytes_eq name (codes "rival") then rival_test_in shown
+-- the test of this name, of one of so many fixtures or clubs, with its numbers from the third place
+-- on
+abbrev pub test_named : ℕ → ℕ → List ℕ → Data → Option Test
+test_named fixtures clubs name shown =
+    if bytes_eq name (codes "home") then home_test_in fixtures shown
+    else if bytes_eq name (codes "draw") then draw_test_in fixtures shown
+    else if bytes_eq name (codes "hg") then home_most_test_in fixtures shown
+    else if bytes_eq name (codes "ag") then away_most_test_in fixtures shown
+    else if bytes_eq name (codes "rival") then rival_test_in clubs shown
     else None
 
 -- the test of a line that has one
+abbrev pub test_below_in : ℕ → ℕ → Data → Option Test
+test_below_in fixtures clubs shown =
+    option_and_then (λ name. test_named fixtures clubs name shown) (word_at 1 shown)
+
+-- of a league
 abbrev pub test_in : Data → Option Test
-test_in shown = option_and_then (λ name. test_named name shown) (word_at 1 shown)
+test_in shown = test_below_in most_fixtures most_clubs shown
 
 -- the set of a cut, in the third place
 abbrev pub cut_set_in : Data → Option ClubSet
@@ -120,13 +130,13 @@ score_line_in shown =
     (λ home. option_map
     (λ away. line.Score fixture (record { home = home; away = away }))
     (integer_at 3 0 most_goals shown))
-    (integer_at 2 0 most_goals shown)) (fixture_at 1 shown))
+    (integer_at 2 0 most_goals shown)) (numbered_at most_fixtures 1 shown))
 
 -- the lots, which need not name each club
 abbrev pub lots_line_in : Data → Option ProofLine
 lots_line_in shown =
     if_ends_at 2 shown
-    (option_map (λ clubs. line.Lots (record { list = clubs })) (clubs_at 1 shown))
+    (option_map (λ clubs. line.Lots (record { list = clubs })) (clubs_at most_clubs 1 shown))
 
 -- a node of a tree, by the first word of its line
 abbrev pub node_line_named : List ℕ → Data → Option ProofLine

@@ -1,5 +1,6 @@
 -- What stands at a place of a JSON array, if it is what a form has there: places count from 0.
--- Fixtures and clubs count from 1 in texts, and from 0 here.
+-- Fixtures and clubs count from 1 in texts, and from 0 here; how many of them a form may name is an
+-- argument.
 use Rattle.std.specs.Prelude.{ℕ, ◌+◌, ◌-◌, ◌^◌, ℤ, Bool, true, ◌&&◌, not, nat_le, List, []}
 use Rattle.std.specs.Prelude.{◌∷◌, Option, Some, None, option_map, option_and_then}
 use Rattle.std.specs.Prelude.{if◌then◌else◌, codes}
@@ -10,7 +11,7 @@ use Rattle.serde_json.specs.Find.{at, as_number, as_u64, as_i64, as_str, as_arra
 use Rattle.league_core.specs.declared.club_set.ClubSet.{ClubSet}
 use Rattle.league_core.specs.declared.question.Claim.{Claim}
 use Rattle.league_core.specs.declared.question.Claim.TheVariants.{Inside, Outside}
-use Rattle.league_core.specs.game.Limits.{most_clubs, most_fixtures}
+use Rattle.league_core.specs.game.Limits.{most_clubs}
 use Rattle.cert_text.specs.Ranges.{is_club_number, are_points}
 
 -- nothing stands at the place, so that the array is no longer than this
@@ -36,13 +37,9 @@ integer_at place least most shown =
 abbrev pub number_here : ℕ → ℕ
 number_here number = number - 1
 
--- a fixture at the place
-abbrev pub fixture_at : ℕ → Data → Option ℕ
-fixture_at place shown = option_map number_here (integer_at place 1 most_fixtures shown)
-
--- a club at the place
-abbrev pub club_at : ℕ → Data → Option ℕ
-club_at place shown = option_map number_here (integer_at place 1 most_clubs shown)
+-- one of so many fixtures or clubs at the place
+abbrev pub numbered_at : ℕ → ℕ → Data → Option ℕ
+numbered_at most place shown = option_map number_here (integer_at place 1 most shown)
 
 -- points that a club can have
 abbrev pub if_points : ℤ → Option ℤ
@@ -65,22 +62,23 @@ claim_named name =
 abbrev pub claim_at : ℕ → Data → Option Claim
 claim_at place shown = option_and_then claim_named (word_at place shown)
 
--- a club as an item of a list
-abbrev pub listed_club : Data → Option ℕ
-listed_club shown =
+-- one of so many clubs as an item of a list
+abbrev pub listed_club : ℕ → Data → Option ℕ
+listed_club most shown =
     option_map number_here
-    (option_and_then (if_between 1 most_clubs) (option_and_then as_u64 (as_number shown)))
+    (option_and_then (if_between 1 most) (option_and_then as_u64 (as_number shown)))
 
--- the clubs of a list, if each of its items is one
-abbrev pub listed_clubs : Items → Option (List ℕ)
-listed_clubs no_items = Some []
-listed_clubs (item shown items) =
-    option_and_then (λ club. option_map (λ clubs. club ∷ clubs) (listed_clubs items))
-    (listed_club shown)
+-- the clubs of a list, if each of its items is one of so many
+abbrev pub listed_clubs : ℕ → Items → Option (List ℕ)
+listed_clubs most no_items = Some []
+listed_clubs most (item shown items) =
+    option_and_then (λ club. option_map (λ clubs. club ∷ clubs) (listed_clubs most items))
+    (listed_club most shown)
 
--- a list of clubs at the place
-abbrev pub clubs_at : ℕ → Data → Option (List ℕ)
-clubs_at place shown = option_and_then listed_clubs (option_and_then as_array (at place shown))
+-- a list of so many clubs at the place
+abbrev pub clubs_at : ℕ → ℕ → Data → Option (List ℕ)
+clubs_at most place shown =
+    option_and_then (listed_clubs most) (option_and_then as_array (at place shown))
 
 -- each is a club that a sheet may have, from this number on, and above those before it
 abbrev pub are_rising_from : ℕ → List ℕ → Bool
@@ -100,6 +98,6 @@ set_listed (club ∷ clubs) =
     if are_rising_from 0 (club ∷ clubs) then Some (record { bits = bits_at (club ∷ clubs) })
     else None
 
--- a set of clubs at the place
+-- a set of clubs of a league at the place
 abbrev pub set_at : ℕ → Data → Option ClubSet
-set_at place shown = option_and_then set_listed (clubs_at place shown)
+set_at place shown = option_and_then set_listed (clubs_at most_clubs place shown)

@@ -1,5 +1,6 @@
 -- Which proof lines have a form: the ranges of their numbers, whatever the sheet and the question.
--- They are the greatest that a league may have.
+-- They are the greatest that a league may have. What names a fixture or a club has its bound as an
+-- argument: how many of them lines may name.
 use Rattle.std.specs.Prelude.{ℕ, ◌-◌, ℤ, Bool, true, ◌&&◌, nat_lt, nat_le, int_le}
 use Rattle.std.specs.List.{list_all}
 use Rattle.league_core.specs.declared.club_set.ClubSet.{ClubSet}
@@ -14,6 +15,10 @@ use Rattle.league_core.specs.game.ClubSets.{clubs_in}
 use Rattle.league_core.specs.search.Reasons.{has_member}
 use Rattle.cert_text.specs.declared.proof_line.ProofLine.{ProofLine}
 use Rattle.cert_text.specs.declared.proof_line.ProofLine.TheVariants as line
+
+-- the number is one of so many, from 0 on
+abbrev pub is_one_of : ℕ → ℕ → Bool
+is_one_of most number = nat_lt number most
 
 -- a fixture that a sheet may have
 abbrev pub is_fixture_number : ℕ → Bool
@@ -35,13 +40,20 @@ is_goal_bound most = nat_le most most_goal_bound
 abbrev pub are_points : ℤ → Bool
 are_points points = int_le least_points points && int_le points most_points
 
--- the numbers of a test are such as a fixture, a club and a bound on goals have
+-- the numbers of a test are such as one of so many fixtures, one of so many clubs and a bound on
+-- goals have
+abbrev pub is_test_below : ℕ → ℕ → Test → Bool
+is_test_below fixtures clubs (Home fixture) = is_one_of fixtures fixture
+is_test_below fixtures clubs (Draw fixture) = is_one_of fixtures fixture
+is_test_below fixtures clubs (HomeMost fixture most) =
+    is_one_of fixtures fixture && is_goal_bound most
+is_test_below fixtures clubs (AwayMost fixture most) =
+    is_one_of fixtures fixture && is_goal_bound most
+is_test_below fixtures clubs (Rival club) = is_one_of clubs club
+
+-- those of a league
 abbrev pub is_test_in_range : Test → Bool
-is_test_in_range (Home fixture) = is_fixture_number fixture
-is_test_in_range (Draw fixture) = is_fixture_number fixture
-is_test_in_range (HomeMost fixture most) = is_fixture_number fixture && is_goal_bound most
-is_test_in_range (AwayMost fixture most) = is_fixture_number fixture && is_goal_bound most
-is_test_in_range (Rival club) = is_club_number club
+is_test_in_range test = is_test_below most_fixtures most_clubs test
 
 -- a set with a member, of numbers of clubs alone
 abbrev pub is_set_in_range : ClubSet → Bool

@@ -4,6 +4,7 @@ ghost use Rattle.std.specs.Prelude.{◌≡◌, IfOk};
 ghost use Rattle.serde_json.specs.View.{view};
 ghost use Rattle.cert_text.specs.Forms.{home_test_in, draw_test_in, home_most_test_in};
 ghost use Rattle.cert_text.specs.Forms.{away_most_test_in, rival_test_in, test_named, test_in};
+ghost use Rattle.cert_text.specs.Forms.{test_below_in};
 ghost use Rattle.cert_text.specs.Forms.{cut_set_in, bare_reason_named, reason_named, reason_in};
 ghost use Rattle.cert_text.specs.Forms.{tree_head_in, window_head_in, spent_head_in};
 ghost use Rattle.cert_text.specs.Forms.{finish_head_in, score_line_in, lots_line_in};
@@ -11,7 +12,7 @@ ghost use Rattle.cert_text.specs.Forms.{node_line_named, line_named, line_of_val
 
 use crate::places::{claim, club, clubs, ends, fixture, number, points, set, word};
 use crate::proof_line::{ClubList, ProofLine};
-use league_core::limits::MOST_GOALS;
+use league_core::limits::{MOST_CLUBS, MOST_FIXTURES, MOST_GOALS};
 use league_core::{ClubSet, Listing, OutOfMemory, Reason, Score, Test};
 use serde_json::Value;
 use std::alloc::Global;
@@ -92,7 +93,7 @@ fn score_line(value: &Value) -> Option<ProofLine>
     ensures { result ≡ score_line_in (view value.now) }
 {
     if ends(value, 4) {
-        let fixture = fixture(value, 1)?;
+        let fixture = fixture(value, 1, MOST_FIXTURES)?;
         let home = number(value, 2, 0, u64::from(MOST_GOALS))? as u8;
         let away = number(value, 3, 0, u64::from(MOST_GOALS))? as u8;
         let score = Score { home, away };
@@ -108,7 +109,7 @@ fn lots_line(alloc: Global, value: &Value) -> Result<Option<ProofLine>, OutOfMem
     if !ends(value, 2) {
         return Ok(None);
     }
-    match clubs(alloc, value, 1)? {
+    match clubs(alloc, value, 1, MOST_CLUBS)? {
         Some(clubs) => Ok(Some(ProofLine::Lots(ClubList {
             list: Listing::from_vec(clubs),
         }))),
@@ -139,54 +140,61 @@ fn named_node(alloc: Global, value: &Value, name: &str) -> Result<Option<ProofLi
 fn test(value: &Value) -> Option<Test>
     ensures { result ≡ test_in (view value.now) }
 {
-    named_test(value, word(value, 1)?)
+    test_below(value, MOST_FIXTURES, MOST_CLUBS)
 }
 
-fn named_test(value: &Value, name: &str) -> Option<Test>
-    ensures { result ≡ test_named name.now (view value.now) }
+/// The test of a line that has one, of one of so many fixtures or clubs.
+pub fn test_below(value: &Value, fixtures: u16, clubs: u8) -> Option<Test>
+    ensures { result ≡ test_below_in fixtures clubs (view value.now) }
+{
+    named_test(value, word(value, 1)?, fixtures, clubs)
+}
+
+fn named_test(value: &Value, name: &str, fixtures: u16, clubs: u8) -> Option<Test>
+    ensures { result ≡ test_named fixtures clubs name.now (view value.now) }
 {
     if name == "home" {
-        home_win(value)
+        home_win(value, fixtures)
     } else if name == "draw" {
-        drawn(value)
+        drawn(value, fixtures)
     } else if name == "hg" {
-        home_most(value)
+        home_most(value, fixtures)
     } else if name == "ag" {
-        away_most(value)
+        away_most(value, fixtures)
     } else if name == "rival" {
-        rival(value)
+        rival(value, clubs)
     } else {
         None
     }
 }
 
-fn home_win(value: &Value) -> Option<Test>
-    ensures { result ≡ home_test_in (view value.now) }
+fn home_win(value: &Value, fixtures: u16) -> Option<Test>
+    ensures { result ≡ home_test_in fixtures (view value.now) }
 {
     if ends(value, 3) {
-        let fixture = fixture(value, 2)?;
+        let fixture = fixture(value, 2, fixtures)?;
         Some(Test::Home { fixture })
     } else {
         None
     }
 }
 
-fn drawn(value: &Value) -> Option<Test>
-    ensures { result ≡ draw_test_in (view value.now) }
+fn drawn(value: &Value, fixtures: u16) -> Option<Test>
+    ensures { result ≡ draw_test_in fixtures (view value.now) }
 {
     if ends(value, 3) {
-        let fixture = fixture(value, 2)?;
+        let fixture = fixture(value, 2, fixtures)?;
         Some(Test::Draw { fixture })
     } else {
         None
     }
 }
 
-fn home_most(value: &Value) -> Option<Test>
-    ensures { result ≡ home_most_test_in (view value.now) }
+fn home_most(value: &Value, fixtures: u16) -> Option<Test>
+    ensures { result ≡ home_most_test_in fixtures (view value.now) }
 {
     if ends(value, 4) {
-        let fixture = fixture(value, 2)?;
+        let fixture = fixture(value, 2, fixtures)?;
         let most = number(value, 3, 0, u64::from(MOST_GOALS) - 1)? as u8;
         Some(Test::HomeMost { fixture, most })
     } else {
@@ -194,11 +202,11 @@ fn home_most(value: &Value) -> Option<Test>
     }
 }
 
-fn away_most(value: &Value) -> Option<Test>
-    ensures { result ≡ away_most_test_in (view value.now) }
+fn away_most(value: &Value, fixtures: u16) -> Option<Test>
+    ensures { result ≡ away_most_test_in fixtures (view value.now) }
 {
     if ends(value, 4) {
-        let fixture = fixture(value, 2)?;
+        let fixture = fixture(value, 2, fixtures)?;
         let most = number(value, 3, 0, u64::from(MOST_GOALS) - 1)? as u8;
         Some(Test::AwayMost { fixture, most })
     } else {
@@ -206,11 +214,11 @@ fn away_most(value: &Value) -> Option<Test>
     }
 }
 
-fn rival(value: &Value) -> Option<Test>
-    ensures { result ≡ rival_test_in (view value.now) }
+fn rival(value: &Value, clubs: u8) -> Option<Test>
+    ensures { result ≡ rival_test_in clubs (view value.now) }
 {
     if ends(value, 3) {
-        let club = club(value, 2)?;
+        let club = club(value, 2, clubs)?;
         Some(Test::Rival { club })
     } else {
         None

@@ -4,16 +4,20 @@
 //! texts are in `specs/Lines.antt`. A row has its line feed, a proof line has none. `read_line`
 //! reads a proof line back (`specs/Forms.antt`). Which lists of lines are trees and examples stands
 //! in `specs/TreeLines.antt` and `specs/ExampleLines.antt`.
+//!
+//! Proof lines name fixtures and clubs of a league. What reads one at a place (`places`), in a text
+//! (`plain_number`, `plain_test`) or as the test of a line (`test_below`) takes how many there are,
+//! so that it serves lines that name more of them.
 #![tactic(auto)]
 
 mod forms;
 mod laws;
 mod line;
-mod places;
+pub mod places;
 mod plain_form;
-mod plain_number;
+pub mod plain_number;
 mod plain_row;
-mod plain_test;
+pub mod plain_test;
 mod proof_line;
 mod range;
 mod reader;
@@ -21,9 +25,10 @@ mod row;
 mod score_line;
 mod values;
 
+pub use forms::test_below;
 pub use laws::lines_are_in_range;
 pub use line::write_line;
 pub use proof_line::{ClubList, ProofLine};
-pub use range::has_form;
+pub use range::{has_form, is_test_below};
 pub use reader::{LineStop, read_line};
 pub use row::write_row;

@@ -2,11 +2,11 @@
 
 ghost use Rattle.std.specs.Prelude.{◌≡◌, ◌<◌, IfOk, Some, None, option_map, map, ◌∷◌, []};
 ghost use Rattle.serde_json.specs.View.{view, items_view};
-ghost use Rattle.cert_text.specs.Places.{is_end_at, word_at, integer_at, fixture_at, club_at};
+ghost use Rattle.cert_text.specs.Places.{is_end_at, word_at, integer_at, numbered_at};
 ghost use Rattle.cert_text.specs.Places.{points_at, claim_at, listed_club, listed_clubs, clubs_at};
 ghost use Rattle.cert_text.specs.Places.{set_listed, set_at};
 
-use league_core::limits::{MOST_CLUBS, MOST_DEDUCTION, MOST_FIXTURES, MOST_POINTS};
+use league_core::limits::{MOST_CLUBS, MOST_DEDUCTION, MOST_POINTS};
 use league_core::{Claim, ClubSet, OutOfMemory};
 use serde_json::Value;
 use std::alloc::Global;
@@ -37,19 +37,19 @@ pub fn number(value: &Value, place: usize, least: u64, most: u64) -> Option<u64>
     }
 }
 
-/// The fixture at the place, by its number from 0.
-pub fn fixture(value: &Value, place: usize) -> Option<u16>
-    ensures { result ≡ fixture_at place (view value.now) }
+/// The fixture at the place, one of so many, by its number from 0.
+pub fn fixture(value: &Value, place: usize, most: u16) -> Option<u16>
+    ensures { result ≡ numbered_at most place (view value.now) }
 {
-    let found = number(value, place, 1, u64::from(MOST_FIXTURES))?;
+    let found = number(value, place, 1, u64::from(most))?;
     Some((found - 1) as u16)
 }
 
-/// The club at the place, by its number from 0.
-pub fn club(value: &Value, place: usize) -> Option<u8>
-    ensures { result ≡ club_at place (view value.now) }
+/// The club at the place, one of so many, by its number from 0.
+pub fn club(value: &Value, place: usize, most: u8) -> Option<u8>
+    ensures { result ≡ numbered_at most place (view value.now) }
 {
-    let found = number(value, place, 1, u64::from(MOST_CLUBS))?;
+    let found = number(value, place, 1, u64::from(most))?;
     Some((found - 1) as u8)
 }
 
@@ -80,11 +80,11 @@ pub fn claim(value: &Value, place: usize) -> Option<Claim>
 }
 
 // A club as an item of a list.
-fn club_of(value: &Value) -> Option<u8>
-    ensures { result ≡ listed_club (view value.now) }
+fn club_of(value: &Value, most: u8) -> Option<u8>
+    ensures { result ≡ listed_club most (view value.now) }
 {
     let found = value.as_u64()?;
-    if 1 <= found && found <= u64::from(MOST_CLUBS) {
+    if 1 <= found && found <= u64::from(most) {
         Some((found - 1) as u8)
     } else {
         None
@@ -92,13 +92,13 @@ fn club_of(value: &Value) -> Option<u8>
 }
 
 // The clubs of a list, if each of its items is one.
-fn clubs_of(alloc: Global, items: &[Value]) -> Result<Option<Vec<u8>>, OutOfMemory>
-    ensures { IfOk result
-        (λ found. option_map (λ clubs. clubs.items) found ≡ listed_clubs (items_view items.now)) }
+fn clubs_of(alloc: Global, items: &[Value], most: u8) -> Result<Option<Vec<u8>>, OutOfMemory>
+    ensures { IfOk result (λ found.
+        option_map (λ clubs. clubs.items) found ≡ listed_clubs most (items_view items.now)) }
 {
     let mut clubs = Vec::new(alloc);
     for item in items {
-        match club_of(item) {
+        match club_of(item, most) {
             Some(club) => clubs.push(club)?,
             None => return Ok(None),
         }
@@ -106,18 +106,23 @@ fn clubs_of(alloc: Global, items: &[Value]) -> Result<Option<Vec<u8>>, OutOfMemo
     Ok(Some(clubs))
 }
 
-/// The list of clubs at the place, by their numbers from 0.
-pub fn clubs(alloc: Global, value: &Value, place: usize) -> Result<Option<Vec<u8>>, OutOfMemory>
+/// The list of clubs at the place, each one of so many, by their numbers from 0.
+pub fn clubs(
+    alloc: Global,
+    value: &Value,
+    place: usize,
+    most: u8,
+) -> Result<Option<Vec<u8>>, OutOfMemory>
     ensures { IfOk result
-        (λ found. option_map (λ clubs. clubs.items) found ≡ clubs_at place (view value.now)) }
+        (λ found. option_map (λ clubs. clubs.items) found ≡ clubs_at most place (view value.now)) }
 {
     match value.get(place).and_then(Value::as_array) {
-        Some(items) => clubs_of(alloc, items.as_slice()),
+        Some(items) => clubs_of(alloc, items.as_slice(), most),
         None => Ok(None),
     }
 }
 
-/// The set of the clubs of a list that rises and has a club.
+/// The set of the clubs of a list that rises and has a club, all of a league.
 pub fn set_of(clubs: &[u8]) -> Option<ClubSet>
     ensures { result ≡ set_listed clubs.now }
 {
@@ -136,11 +141,11 @@ pub fn set_of(clubs: &[u8]) -> Option<ClubSet>
     Some(ClubSet { bits })
 }
 
-/// The set of clubs at the place.
+/// The set of clubs of a league at the place.
 pub fn set(alloc: Global, value: &Value, place: usize) -> Result<Option<ClubSet>, OutOfMemory>
     ensures { IfOk result (λ found. found ≡ set_at place (view value.now)) }
 {
-    match clubs(alloc, value, place)? {
+    match clubs(alloc, value, place, MOST_CLUBS)? {
         Some(clubs) => Ok(set_of(clubs.as_slice())),
         None => Ok(None),
     }

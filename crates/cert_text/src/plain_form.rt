@@ -10,7 +10,7 @@ use crate::places::set_of;
 use crate::plain_number::{behind, clubs_at_end, is_all, number};
 use crate::plain_test::test;
 use crate::proof_line::{ClubList, ProofLine};
-use league_core::limits::{MOST_FIXTURES, MOST_GOALS};
+use league_core::limits::{MOST_CLUBS, MOST_FIXTURES, MOST_GOALS};
 use league_core::{Claim, ClubSet, Listing, OutOfMemory, Reason, Score};
 use std::alloc::Global;
 
@@ -57,7 +57,7 @@ fn score_line(text: &[u8]) -> Option<ProofLine>
 fn split_line(text: &[u8]) -> Option<ProofLine>
     ensures { IfSome result (λ line. line_in (text_named (codes "split") text.now) ≡ Some line) }
 {
-    let asked = test(text)?;
+    let asked = test(text, MOST_FIXTURES, MOST_CLUBS)?;
     Some(ProofLine::Split(asked))
 }
 
@@ -65,7 +65,7 @@ fn new_split_line(text: &[u8]) -> Option<ProofLine>
     ensures { IfSome result
         (λ line. line_in (text_named (codes "new_split") text.now) ≡ Some line) }
 {
-    let asked = test(text)?;
+    let asked = test(text, MOST_FIXTURES, MOST_CLUBS)?;
     Some(ProofLine::NewSplit(asked))
 }
 
@@ -73,7 +73,7 @@ fn lots_line(alloc: Global, text: &[u8]) -> Result<Option<ProofLine>, OutOfMemor
     ensures { IfOk result (λ found. IfSome found (λ line.
         line_in (text_named (codes "lots") text.now) ≡ Some line)) }
 {
-    match clubs_at_end(alloc, text)? {
+    match clubs_at_end(alloc, text, MOST_CLUBS)? {
         Some(clubs) => Ok(Some(ProofLine::Lots(ClubList {
             list: Listing::from_vec(clubs),
         }))),
@@ -132,7 +132,7 @@ fn bare_reason(text: &[u8]) -> Option<Reason>
 fn set(alloc: Global, text: &[u8]) -> Result<Option<ClubSet>, OutOfMemory>
     ensures { IfOk result (λ found. IfSome found (IsSetAtEnd text.now)) }
 {
-    match clubs_at_end(alloc, text)? {
+    match clubs_at_end(alloc, text, MOST_CLUBS)? {
         Some(clubs) => Ok(set_of(clubs.as_slice())),
         None => Ok(None),
     }

@@ -2,10 +2,9 @@
 
 ghost use Rattle.std.specs.Prelude.{◌≡◌, ◌<◌, ◌+◌, ◌++◌, IfOk, IfSome, IsTrue, decimal};
 ghost use Rattle.cert_text.specs.inside.PlainForms.{AreClubsAtEnd, IsNumberBefore};
-ghost use Rattle.cert_text.specs.Ranges.{is_club_number};
+ghost use Rattle.cert_text.specs.Ranges.{is_one_of};
 
 use league_core::OutOfMemory;
-use league_core::limits::MOST_CLUBS;
 use std::alloc::Global;
 
 /// What is left of the text after these bytes, if it begins with them.
@@ -71,16 +70,17 @@ fn digit(byte: u8) -> Option<u16>
     }
 }
 
-/// The clubs of the list that ends a line, by their numbers from 0.
-pub fn clubs_at_end(alloc: Global, text: &[u8]) -> Result<Option<Vec<u8>>, OutOfMemory>
-    ensures { IfOk result (λ found. IfSome found (λ list. AreClubsAtEnd text.now list.items)) }
+/// The clubs of the list that ends a line, each one of so many, by their numbers from 0.
+pub fn clubs_at_end(alloc: Global, text: &[u8], most: u8) -> Result<Option<Vec<u8>>, OutOfMemory>
+    ensures { IfOk result
+        (λ found. IfSome found (λ list. AreClubsAtEnd most text.now list.items)) }
 {
     let Some(mut rest) = behind(text, b",[") else {
         return Ok(None);
     };
-    let mut list = Vec::with_capacity(alloc, MOST_CLUBS as usize)?;
+    let mut list = Vec::with_capacity(alloc, most as usize)?;
     'clubs: loop {
-        let Some((club, more)) = club(rest) else {
+        let Some((club, more)) = club(rest, most) else {
             return Ok(None);
         };
         list.push(club)?;
@@ -95,12 +95,12 @@ pub fn clubs_at_end(alloc: Global, text: &[u8]) -> Result<Option<Vec<u8>>, OutOf
 }
 
 // The club whose number the text begins with.
-fn club(text: &[u8]) -> Option<(u8, &[u8])>
+fn club(text: &[u8], most: u8) -> Option<(u8, &[u8])>
     ensures { IfSome result (λ it.
-        IsTrue (is_club_number it.0) × (text.now ≡ decimal (it.0 + 1) ++ it.1.now)) }
+        IsTrue (is_one_of most it.0) × (text.now ≡ decimal (it.0 + 1) ++ it.1.now)) }
 {
     let (number, rest) = digits(text)?;
-    if 1 <= number && number <= u16::from(MOST_CLUBS) {
+    if 1 <= number && number <= u16::from(most) {
         Some(((number - 1) as u8, rest))
     } else {
         None

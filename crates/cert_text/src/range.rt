@@ -1,10 +1,11 @@
 //! Whether the numbers of a proof line are such as its form has.
 
-ghost use Rattle.std.specs.Prelude.{◌≡◌, ◌&&◌};
+ghost use Rattle.std.specs.Prelude.{◌≡◌};
 ghost use Rattle.std.specs.List.{list_all};
 ghost use Rattle.cert_text.specs.Ranges.{is_club_number, are_points, is_test_in_range};
 ghost use Rattle.cert_text.specs.Ranges.{is_set_in_range, is_reason_in_range, is_in_range};
-ghost use Rattle.cert_text.specs.Ranges.{is_fixture_number, is_goal_bound};
+ghost use Rattle.cert_text.specs.Ranges.{is_goal_bound};
+ghost use Rattle.cert_text.specs.Ranges as ranges;
 
 use crate::proof_line::ProofLine;
 use league_core::limits::{MOST_CLUBS, MOST_DEDUCTION, MOST_FIXTURES, MOST_GOALS, MOST_POINTS};
@@ -38,22 +39,31 @@ fn are_within(points: i32) -> bool
     -i32::from(MOST_DEDUCTION) <= points && points <= i32::from(MOST_POINTS)
 }
 
-fn is_bounded(fixture: u16, most: u8) -> bool
-    ensures { result ≡ (is_fixture_number fixture && is_goal_bound most) }
-{
-    fixture < MOST_FIXTURES && most <= MOST_GOALS - 1
-}
-
 fn is_test_within(test: Test) -> bool
     ensures { result ≡ is_test_in_range test }
 {
+    is_test_below(test, MOST_FIXTURES, MOST_CLUBS)
+}
+
+/// The test is of one of so many fixtures or clubs, and its bound on goals is one that a score can
+/// miss.
+pub fn is_test_below(test: Test, fixtures: u16, clubs: u8) -> bool
+    ensures { result ≡ ranges.is_test_below fixtures clubs test }
+{
     match test {
-        Test::Home { fixture } => fixture < MOST_FIXTURES,
-        Test::Draw { fixture } => fixture < MOST_FIXTURES,
-        Test::HomeMost { fixture, most } => is_bounded(fixture, most),
-        Test::AwayMost { fixture, most } => is_bounded(fixture, most),
-        Test::Rival { club } => club < MOST_CLUBS,
+        Test::Home { fixture } => fixture < fixtures,
+        Test::Draw { fixture } => fixture < fixtures,
+        Test::HomeMost { fixture, most } => fixture < fixtures && is_missed(most),
+        Test::AwayMost { fixture, most } => fixture < fixtures && is_missed(most),
+        Test::Rival { club } => club < clubs,
     }
+}
+
+// A score can miss the bound on goals.
+fn is_missed(most: u8) -> bool
+    ensures { result ≡ is_goal_bound most }
+{
+    most <= MOST_GOALS - 1
 }
 
 fn is_reason_within(reason: Reason) -> bool

@@ -7,6 +7,7 @@ pub mod WalkLemmas
 pub mod ScoreDomainLemmas
 pub mod TransferLemmas
 pub mod MeaningLemmas
+pub mod KeyLemmas
 pub mod RivalLemmas
 pub mod StepLemmas
 pub mod ExtremeScoreLemmas

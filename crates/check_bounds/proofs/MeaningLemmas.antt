@@ -138,7 +138,7 @@ by_same OverallFirst sheet corners options group rival club are =
     || is_apart (first_same sheet corners options other are i)
     (first_same sheet corners options club are i)) group) (next i))
 
-points_same : (sheet : Sheet) (season : Results) (corners options : List (List Score))
+pub points_same : (sheet : Sheet) (season : Results) (corners options : List (List Score))
     (clubs : List ℕ) → AreAllExtremesOf corners options
     → points_range sheet season corners clubs ≡ points_range sheet season options clubs
 points_same sheet season corners options clubs are =

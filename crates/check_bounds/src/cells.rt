@@ -1,7 +1,7 @@
 //! What a zone leaves of each fixture: its domain, its extremes, and the points that these give. A
 //! literal changes one fixture alone, and so does going back over one; all others are kept.
 
-ghost use Rattle.std.specs.Prelude.{◌≡◌, ◌<◌, [], ◌∷◌, IfOk, length, set, slice_index_or};
+ghost use Rattle.std.specs.Prelude.{◌≡◌, ◌<◌, ℕ, [], ◌∷◌, IfOk, length, set, slice_index_or};
 ghost use Rattle.league_core.specs.game.Seasons.{IsLeague};
 ghost use Rattle.league_core.specs.game.Sheets.{IsWithinLimits};
 ghost use Rattle.league_core.specs.game.Sums.{worth_to};
@@ -11,7 +11,7 @@ ghost use Rattle.league_core.specs.search.Options.{options_in, has_option, has_o
 ghost use Rattle.league_core.specs.search.PointRanges.{points_range, points_together, range_from};
 ghost use Rattle.check_bounds.specs.declared.score_domain.ScoreDomain.{ScoreDomain};
 ghost use Rattle.check_bounds.specs.inside.Terms.{worth_by};
-ghost use Rattle.check_bounds.specs.inside.IntRanges.{as_sum_range, IsRangeWithin};
+ghost use Rattle.check_bounds.specs.inside.IntRanges.{as_sum_range, range_at, IsRangeWithin};
 ghost use Rattle.check_bounds.specs.inside.Tables.{IsTableOf};
 ghost use Rattle.check_bounds.specs.inside.Walks.{AreRecordsOf, worth_near};
 ghost use Rattle.check_bounds.specs.inside.Zones.{AreScoreDomainsOf};
@@ -99,6 +99,7 @@ impl<'a> Cells<'a> {
     pub fn sheet(&self) -> &Sheet
         ensures value { result.now ≡ self.now.sheet }
         ensures limits { IsWithinLimits result.now }
+        ensures fit { FitScoreDomains self.now.scopes self.now.corners }
     {
         self.sheet
     }
@@ -154,8 +155,9 @@ impl<'a> Cells<'a> {
 
     /// The sums of the clubs of a group by one measure, over all matches.
     pub fn sums_in(&self, kind: Measure, group: ClubSet) -> [IntRange; 32]
-        ensures { IsTableOf (worth_near (clubs_in group) (worth_by kind))
+        ensures table { IsTableOf (worth_near (clubs_in group) (worth_by kind))
             self.now.sheet.fixtures self.now.corners result }
+        ensures near { (club : ℕ) → IsRangeWithin 153000 (range_at result club) }
     {
         sums_in(
             self.sheet.fixtures.as_slice(),

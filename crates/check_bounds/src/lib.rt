@@ -1,4 +1,4 @@
-//! The checker's own test of a reason: whether it holds in a zone.
+//! The checker's own test of a reason: whether it holds in a zone; and its own ends of a key there.
 //!
 //! What a reason says is league_core's `specs/search/Reasons.antt` and `SureOrder.antt`; read these
 //! first. Here each fixture has a domain of scores and its extremes (`cells.rt`,
@@ -10,6 +10,7 @@ mod cells;
 mod compare;
 mod extreme_scores;
 mod int_range;
+mod key_ends;
 mod open_counts;
 mod outcomes;
 mod reasons;

@@ -23,8 +23,9 @@ pub fn sums_in(
     group: ClubSet,
 ) -> [IntRange; 32]
     requires { ArePlayedOver fixtures.now corners.now }
-    ensures { IsTableOf (worth_near (clubs_in group) (worth_by kind)) fixtures.now corners.now
+    ensures table { IsTableOf (worth_near (clubs_in group) (worth_by kind)) fixtures.now corners.now
         result }
+    ensures near { (club : ℕ) → IsRangeWithin 153000 (range_at result club) }
 {
     let mut table = [IntRange::ZERO; 32];
     for i in 0..fixtures.len() {

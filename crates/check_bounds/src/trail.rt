@@ -1,16 +1,20 @@
 //! The way to a zone, from the whole season on: what it leaves of each fixture, and the rivals that
 //! it marks. To go on by a literal, or back over one, costs the same however long the way is.
 
-ghost use Rattle.std.specs.Prelude.{◌≡◌, [], IsTrue, IfOk, OnOk, OnErr, IfSome, IfNone};
+ghost use Rattle.std.specs.Prelude.{◌≡◌, ◌<◌, [], IsTrue, IfOk, OnOk, OnErr, IfSome, IfNone};
+ghost use Rattle.std.specs.Prelude.{length};
 ghost use Rattle.league_core.specs.game.Seasons.{IsLeague};
 ghost use Rattle.league_core.specs.game.Questions.{IsQuestionOf};
 ghost use Rattle.league_core.specs.search.Reasons.{has_reason};
 ghost use Rattle.league_core.specs.search.Zones.{is_test_of, is_zone_of};
+ghost use Rattle.club_keys.specs.inside.KeyEnds.{AreKeyEnds};
 ghost use Rattle.check_bounds.specs.inside.Trails.{root_of, farther};
 
 use crate::cells::Cells;
+use crate::key_ends::ends_over;
 use crate::reasons::holds_over;
 use crate::step::{Marks, Step, cut_by, undo};
+use club_keys::KeyEnds;
 use league_core::{Literal, OutOfMemory, Question, Reason, Season, Sheet};
 use std::alloc::Global;
 use std::marker::Model;
@@ -101,6 +105,14 @@ impl<'a> Trail<'a> {
             }
             None => None,
         }
+    }
+
+    /// Both ends of a club's key in the zone, in a few walks over the fixtures. Clubs count from 0.
+    pub fn key_ends(&self, club: u8) -> KeyEnds
+        requires { club < length self.now.sheet.clubs }
+        ensures { AreKeyEnds self.now.sheet self.now.season self.now.zone club result }
+    {
+        ends_over(self.season, &self.cells, club)
     }
 
     /// Whether the reason holds in the zone, in a few walks over the fixtures.

@@ -2,7 +2,9 @@
 -- of zones.
 use Rattle.std.proofs.Common.{◌≡◌, ◌⊎◌, inl, inr, ℕ, zero, suc, ◌<◌, ◌≤◌, Bool, true, false}
 use Rattle.std.proofs.Common.{List, [], ◌∷◌, length, refl, sym, ◌∙◌, arith}
-use Rattle.std.proofs.lemmas.Bool.{false≢true, and_from, cases_Bool}
+use Rattle.std.specs.List.{list_all}
+use Rattle.std.proofs.lemmas.Bool.{false≢true, and_from, and_parts, cases_Bool}
+use Rattle.std.proofs.lemmas.List.Folds.{list_all-append}
 use Rattle.league_core.specs.declared.sheet.Sheet.{Sheet}
 use Rattle.league_core.specs.declared.question.Question.{Question}
 use Rattle.league_core.specs.declared.zone.Test.{Test}
@@ -19,7 +21,8 @@ use Rattle.league_core.specs.search.Options.{has_finish, is_single, IsInBox}
 use Rattle.league_core.specs.search.Proposals.{proposed_finish}
 use Rattle.league_core.specs.search.Reasons.{has_reason}
 use Rattle.league_core.specs.search.Splits.{IsFairSplit, IsProperNode, AreReasonsTrue, is_proper}
-use Rattle.league_core.specs.search.Trees.{Tree, refuted_leaf, branch, NodesMeet, is_refuted}
+use Rattle.league_core.specs.search.Trees.{Tree, open_leaf, refuted_leaf, branch, NodesMeet}
+use Rattle.league_core.specs.search.Trees.{is_refuted}
 use Rattle.league_core.proofs.LotsLemmas.{holds_at-favoured, lots_for_claim-are_lots}
 use Rattle.league_core.proofs.LotsLemmas.{lots_for_claim-favoured}
 use Rattle.league_core.proofs.ProposalLemmas.{proposed_in_box, proposed_is_finish}
@@ -30,6 +33,10 @@ use Rattle.reason_laws.proofs.SplitLemmas.{either_half}
 use Rattle.reason_laws.proofs.TieLemmas.{reason_says}
 use Rattle.reason_laws.proofs.DecidedLemmas.{single_decided_by_two}
 use Rattle.cert_text.proofs.ProperLemmas.{proper_tests}
+use Rattle.depth_search.specs.inside.Cases.{Cases, left_open, refuted, split, HoldsBelow}
+use Rattle.depth_search.specs.inside.Cases.{case_nodes, is_made}
+use Rattle.depth_search.specs.inside.Decided.{DecidedKind}
+use Rattle.depth_search.proofs.DecidedLemmas.{each_zone_decided}
 use Rattle.branch_rules.specs.inside.Found.{IsProposedInVain}
 use Rattle.branch_rules.proofs.FoundLemmas.{has_several}
 use Rattle.decision_laws.specs.inside.Completeness.{CanBeMet, at_once, in_a_half, HasRefutation}
@@ -51,114 +58,100 @@ HasExampleInBox sheet season question zone =
     (finish : Results) × (lots : List ℕ) × IsExample sheet season question finish lots
     × IsInBox sheet season zone finish
 
--- an example in the box of a zone, or a tree that refutes the question below the zone
-abbrev DecidedBelow : Sheet → Results → Question → List Literal → Type 0
-DecidedBelow sheet season question zone =
-    HasExampleInBox sheet season question zone
-    ⊎ ((tree : Tree) × RefutesBelow sheet season question zone tree)
+-- the tree with the nodes of a tree of cases, each of them new
+abbrev tree_of : Cases Reason → Tree
+tree_of left_open = open_leaf
+tree_of (refuted reason) = refuted_leaf reason true
+tree_of (split test yes_half no_half) = branch test true (tree_of yes_half) (tree_of no_half)
 
-leaf_refutes : (sheet : Sheet) (season : Results) (question : Question) (zone : List Literal)
-    (reason : Reason) → has_reason sheet season question zone reason ≡ true
-    → RefutesBelow sheet season question zone (refuted_leaf reason true)
-leaf_refutes sheet season question zone reason holds =
+-- it refutes the question where the cases do
+cases_refute : (sheet : Sheet) (season : Results) (question : Question) (zone : List Literal)
+    (cases : Cases Reason)
+    → HoldsBelow (λ below reason. has_reason sheet season question below reason ≡ true)
+    (λ below test. is_proper sheet season question below test ≡ true) zone cases
+    → list_all is_made (case_nodes cases) ≡ true
+    → RefutesBelow sheet season question zone (tree_of cases)
+cases_refute sheet season question zone left_open holds made = absurd (false≢true made)
+cases_refute sheet season question zone (refuted reason) holds made =
     record { refuted = refl; reasons = holds; proper = tt }
+cases_refute sheet season question zone (split test yes_half no_half) holds made =
+    let parts = and_parts (list_all is_made (case_nodes yes_half))
+    (list_all is_made (case_nodes no_half))
+    (sym (list_all-append is_made (case_nodes yes_half) (case_nodes no_half)) ∙ made) in
+    let first = cases_refute sheet season question (with_test zone test true) yes_half holds.1
+    parts.0 in
+    let second = cases_refute sheet season question (with_test zone test false) no_half holds.2
+    parts.1 in
+    record {
+      refuted = and_from (is_refuted (tree_of yes_half)) (is_refuted (tree_of no_half))
+          first.refuted second.refuted;
+      reasons = (tt, first.reasons, second.reasons);
+      proper = (holds.0, first.proper, second.proper);
+    }
 
-branch_refutes : (sheet : Sheet) (season : Results) (question : Question) (zone : List Literal)
-    (test : Test) (yes_half no_half : Tree) → is_proper sheet season question zone test ≡ true
-    → RefutesBelow sheet season question (with_test zone test true) yes_half
-    → RefutesBelow sheet season question (with_test zone test false) no_half
-    → RefutesBelow sheet season question zone (branch test true yes_half no_half)
-branch_refutes sheet season question zone test yes_half no_half proper first second = record {
-  refuted = and_from (is_refuted yes_half) (is_refuted no_half) first.refuted second.refuted;
-  reasons = (tt, first.reasons, second.reasons);
-  proper = (proper, first.proper, second.proper);
+-- ---- kinds of question about a season
+
+-- whatever shows an example and whatever a reason is: each zone with a finish is decided by proper
+-- splits if each single one is
+abbrev pub season_kind : {E R : Type 0} (sheet : Sheet) (season : Results) (question : Question)
+    (there : List Literal → E → Type 0) (refutes : List Literal → R → Type 0)
+    → IsSeasonOf sheet season
+    → ((zone : List Literal) → has_finish sheet season zone ≡ true
+    → is_single sheet season zone ≡ true
+    → ((example : E) × there zone example) ⊎ ((reason : R) × refutes zone reason))
+    → ((zone : List Literal) (test : Test) (holds : Bool) (example : E)
+    → there (with_test zone test holds) example → there zone example)
+    → DecidedKind E R
+season_kind sheet season question there refutes of_sheet ends from_half = record {
+  there = there;
+  refutes = refutes;
+  splits = λ zone test. is_proper sheet season question zone test ≡ true;
+  fits = λ zone. has_finish sheet season zone ≡ true;
+  is_single = is_single sheet season;
+  weight = weight_of sheet season question;
+  ends = ends;
+  parts = λ zone some several.
+      let due = due_test sheet season question zone of_sheet some several in
+      (due.test, due.proper);
+  halves = half_has_finish sheet season question;
+  lighter = λ zone test holds some proper.
+      (halves_weigh_less sheet season question zone test holds of_sheet some proper).1;
+  from_half = from_half;
 }
 
+-- a finish with lots is an example of the question in the box of the zone
+abbrev IsExampleInBox : Sheet → Results → Question → List Literal → (Results × List ℕ) → Type 0
+IsExampleInBox sheet season question zone found =
+    IsExample sheet season question found.0 found.1 × IsInBox sheet season zone found.0
+
 -- a single zone has the window or the criteria as its reason, or its finish is an example
-single_is_decided : (sheet : Sheet) (season : Results) (question : Question)
-    (zone : List Literal) → IsSeasonOf sheet season → question.club < length sheet.clubs
+single_ends : (sheet : Sheet) (season : Results) (question : Question)
+    → IsSeasonOf sheet season → question.club < length sheet.clubs → (zone : List Literal)
     → has_finish sheet season zone ≡ true → is_single sheet season zone ≡ true
-    → DecidedBelow sheet season question zone
-single_is_decided sheet season question zone of_sheet club_in some single =
-    let window = has_reason sheet season question zone Window in
-    let tie = has_reason sheet season question zone Tie in
+    → ((found : Results × List ℕ) × IsExampleInBox sheet season question zone found)
+    ⊎ ((reason : Reason) × (has_reason sheet season question zone reason ≡ true))
+single_ends sheet season question of_sheet club_in zone some single =
     elim (cases_Bool (has_reason sheet season question zone Window)) [
-      | inl holds ↦ inr (
-        refuted_leaf Window true,
-        leaf_refutes sheet season question zone Window holds,
-      )
+      | inl holds ↦ inr (Window, holds)
       | inr no_window ↦ elim (cases_Bool (has_reason sheet season question zone Tie)) [
-        | inl holds ↦ inr (
-          refuted_leaf Tie true,
-          leaf_refutes sheet season question zone Tie holds,
-        )
-        | inr no_tie ↦ inl (
-          proposed_finish sheet season question zone,
-          lots_for_claim (length sheet.clubs) question.club question.claim,
-          single_decided_by_two sheet season question zone
-              (proposed_finish sheet season question zone) club_in single
-              (λ holds. false≢true (sym no_window ∙ holds))
-              (λ holds. false≢true (sym no_tie ∙ holds))
-              (proposed_in_box sheet season question zone of_sheet some),
-          proposed_in_box sheet season question zone of_sheet some,
-        )
+        | inl holds ↦ inr (Tie, holds)
+        | inr no_tie ↦
+            let box = proposed_in_box sheet season question zone of_sheet some in
+            inl (
+              (
+                proposed_finish sheet season question zone,
+                lots_for_claim (length sheet.clubs) question.club question.claim,
+              ),
+              (
+                single_decided_by_two sheet season question zone
+                    (proposed_finish sheet season question zone) club_in single
+                    (λ holds. false≢true (sym no_window ∙ holds))
+                    (λ holds. false≢true (sym no_tie ∙ holds)) box,
+                box,
+              ),
+            )
       ]
     ]
-
--- what is in the box of a half is in that of its zone
-from_half : (sheet : Sheet) (season : Results) (question : Question) (zone : List Literal)
-    (test : Test) (holds : Bool) → HasExampleInBox sheet season question (with_test zone test holds)
-    → HasExampleInBox sheet season question zone
-from_half sheet season question zone test holds has = (
-  has.0,
-  has.1,
-  has.2,
-  box_prefix sheet season zone (record { test = test; yes = holds } ∷ []) has.0 has.3,
-)
-
--- each zone with a finish is decided: it is split until all is single
-zone_decided : (fuel : ℕ) (sheet : Sheet) (season : Results) (question : Question)
-    (zone : List Literal) → IsSeasonOf sheet season → question.club < length sheet.clubs
-    → has_finish sheet season zone ≡ true → weight_of sheet season question zone ≤ fuel
-    → DecidedBelow sheet season question zone
-zone_decided zero sheet season question zone of_sheet club_in some light =
-    absurd (omega (arith, weight_some sheet season question zone some))
-zone_decided (suc fuel) sheet season question zone of_sheet club_in some light =
-    elim (cases_Bool (is_single sheet season zone)) as
-    (λ _. DecidedBelow sheet season question zone) [
-      | inl single ↦
-          single_is_decided sheet season question zone of_sheet club_in some single
-      | inr several ↦
-          let due = due_test sheet season question zone of_sheet some several in
-          let half : (holds : Bool)
-          → DecidedBelow sheet season question (with_test zone due.test holds) =
-          λ holds. zone_decided fuel sheet season question (with_test zone due.test holds)
-          of_sheet club_in
-          (half_has_finish sheet season question zone due.test holds some due.proper)
-          (lighter holds due.test due.proper) in
-          both due (half true) (half false)
-    ]
-  where
-    lighter : (holds : Bool) (test : Test) → is_proper sheet season question zone test ≡ true
-        → weight_of sheet season question (with_test zone test holds) ≤ fuel
-    lighter holds test proper =
-        let less = (halves_weigh_less sheet season question zone test holds of_sheet some
-        proper).1 in
-        omega (arith, less, light)
-
-    both : (due : IsDueTest sheet season question zone)
-        → DecidedBelow sheet season question (with_test zone due.test true)
-        → DecidedBelow sheet season question (with_test zone due.test false)
-        → DecidedBelow sheet season question zone
-    both due (inl example) second =
-        inl (from_half sheet season question zone due.test true example)
-    both due (inr first) (inl example) =
-        inl (from_half sheet season question zone due.test false example)
-    both due (inr first) (inr second) = inr (
-      branch due.test true first.0 second.0,
-      branch_refutes sheet season question zone due.test first.0 second.0 due.proper first.1
-          second.1,
-    )
 
 -- a zone that has a finish is decided
 pub zone_is_decided : (sheet : Sheet) (season : Results) (question : Question)
@@ -167,8 +160,20 @@ pub zone_is_decided : (sheet : Sheet) (season : Results) (question : Question)
     → HasExampleInBox sheet season question zone
     ⊎ ((tree : Tree) × RefutesBelow sheet season question zone tree)
 zone_is_decided sheet season question zone of_sheet asked some =
-    zone_decided (weight_of sheet season question zone) sheet season question zone of_sheet
-    asked.club some (omega arith)
+    elim (each_zone_decided (season_kind sheet season question
+    (IsExampleInBox sheet season question)
+    (λ below reason. has_reason sheet season question below reason ≡ true) of_sheet
+    (single_ends sheet season question of_sheet asked.club)
+    (λ below test holds found example. (
+      example.0,
+      box_prefix sheet season below (record { test = test; yes = holds } ∷ []) found.0 example.1,
+    ))) zone some) [
+      | inl found ↦ inl (found.0.0, found.0.1, found.1.0, found.1.1)
+      | inr found ↦ inr (
+        tree_of found.0,
+        cases_refute sheet season question zone found.0 found.1 found.2,
+      )
+    ]
 
 pub question_decided : (sheet : Sheet) (season : Results) (question : Question)
     → IsLeague sheet season → are_results season ≡ true → IsQuestionOf sheet question
@@ -193,7 +198,7 @@ pub question_refuted : (sheet : Sheet) (season : Results) (question : Question)
 question_refuted sheet season question league results asked none =
     elim (question_decided sheet season question league results asked) [
       | inl example ↦ absurd (none example.0 example.1 example.2)
-      | inr refuted ↦ refuted
+      | inr found ↦ found
     ]
 
 -- ---- examples

@@ -166,17 +166,6 @@ abbrev pub AreFit : (List Literal → Type 0) → List (List Literal) → Type 0
 AreFit fits [] = Unit {0}
 AreFit fits (zone ∷ zones) = fits zone × AreFit fits zones
 
--- still can
-pub fit_still : (fits then : List Literal → Type 0) → ((zone : List Literal) → fits zone → then
-    zone)
-    → (zones : List (List Literal)) → AreFit fits zones → AreFit then zones
-fit_still fits then still [] are = tt
-fit_still fits then still (zone ∷ zones) are = (
-  still zone are.0,
-  fit_still fits then still zones
-      are.1,
-)
-
 -- the halves of a split, by what was found and in which zone
 pub halves_fit : {E R : Type 0} (fits : List Literal → Type 0) (zone path : List Literal)
     (found : ZoneLook E R) (test : Test) → FitHalves fits zone found → found ≡ look.Split test

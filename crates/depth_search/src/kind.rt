@@ -1,9 +1,9 @@
 //! A kind of question: what may be found in a zone, and what a search comes to.
 
-ghost use Rattle.std.specs.Prelude.{List, IfOk};
+ghost use Rattle.std.specs.Prelude.{◌≡◌, List, IfOk};
 ghost use Rattle.league_core.specs.declared.zone.Literal.{Literal};
 ghost use Rattle.league_core.specs.declared.zone.Test.{Test};
-ghost use Rattle.depth_search.specs.inside.Searches.{FitHalves, IsFoundBy, SaysNoMore};
+ghost use Rattle.depth_search.specs.inside.Searches.{FitHalves, IsFoundBy};
 
 use league_core::{Literal, OutOfMemory, Test};
 
@@ -44,26 +44,30 @@ pub trait Kind {
 
     type Example: Drop;
 
+    // What is asked, which no look changes.
+    ghost Subject: { Type 0 };
+
+    ghost subject: { Self → Subject };
+
     // In which zones it can look.
-    ghost fits: { Self → List Literal → Type 0 };
+    ghost fits: { Subject → List Literal → Type 0 };
 
     // What an example shows; what a reason says of a zone; by which tests a zone may be split.
-    ghost shows: { Self → Self.Example → Type 0 };
+    ghost shows: { Subject → Self.Example → Type 0 };
 
-    ghost refutes: { Self → List Literal → Self.Reason → Type 0 };
+    ghost refutes: { Subject → List Literal → Self.Reason → Type 0 };
 
-    ghost splits: { Self → List Literal → Test → Type 0 };
+    ghost splits: { Subject → List Literal → Test → Type 0 };
 
-    /// Finds one of the three in a zone. What it keeps for itself may change.
+    /// Finds one of the three in a zone, after so many units. What it keeps for itself may change.
     fn look(
         &mut self,
         zone: &[Literal],
+        spent: u32,
     ) -> Result<ZoneLook<Self::Example, Self::Reason>, OutOfMemory>
-        requires { fits self.old zone.now }
-        ensures found { IfOk result (IsFoundBy (shows self.old) (refutes self.old zone.now)
-            (splits self.old zone.now)) }
-        ensures halves { IfOk result (FitHalves (fits self.old) zone.now) }
-        ensures same { SaysNoMore (shows self.old) (refutes self.old) (splits self.old)
-            (shows self.new) (refutes self.new) (splits self.new) }
-        ensures fit { (zone : List Literal) → fits self.old zone → fits self.new zone };
+        requires { fits (subject self.old) zone.now }
+        ensures found { IfOk result (IsFoundBy (shows (subject self.old))
+            (refutes (subject self.old) zone.now) (splits (subject self.old) zone.now)) }
+        ensures halves { IfOk result (FitHalves (fits (subject self.old)) zone.now) }
+        ensures same { subject self.new ≡ subject self.old };
 }

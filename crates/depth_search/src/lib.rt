@@ -8,7 +8,9 @@ mod kind;
 mod laws;
 mod path;
 mod search;
+mod zone_nodes;
 
 pub use kind::{CaseNode, Kind, SearchEnd, ZoneLook};
-pub use laws::refuted_cases_leave_nothing;
+pub use laws::{Decided, each_zone_is_decided, refuted_cases_leave_nothing};
 pub use search::work_through;
+pub use zone_nodes::new_nodes;

@@ -1,6 +1,6 @@
 //! The search.
 
-ghost use Rattle.std.specs.Prelude.{◌≡◌, ◌≤◌, ◌+◌, [], ◌++◌, IfOk, OnOk, length, replicate};
+ghost use Rattle.std.specs.Prelude.{◌≡◌, ◌+◌, [], ◌++◌, IfOk, OnOk, length, replicate};
 ghost use Rattle.league_core.specs.inside.Pending.{pending_of};
 ghost use Rattle.depth_search.specs.declared.kind.CaseNode.TheVariants as node;
 ghost use Rattle.depth_search.specs.inside.Searches.{IsEndOf};
@@ -18,15 +18,15 @@ pub fn work_through<K: Kind>(
     kind: &mut K,
     budget: u32,
 ) -> Result<SearchEnd<K::Example, K::Reason>, OutOfMemory>
-    requires budget { 1 ≤ budget }
-    requires root { K.fits kind.old [] }
-    ensures { IfOk result (IsEndOf (K.shows kind.old) (K.refutes kind.old) (K.splits kind.old)
-        budget) }
+    requires { K.fits (K.subject kind.old) [] }
+    ensures end { IfOk result (IsEndOf (K.shows (K.subject kind.old))
+        (K.refutes (K.subject kind.old)) (K.splits (K.subject kind.old)) budget) }
+    ensures same { K.subject kind.new ≡ K.subject kind.old }
 {
     let mut nodes = Vec::new(alloc);
     let mut path = Vec::new(alloc);
     for spent in 0..budget {
-        match kind.look(path.as_slice())? {
+        match kind.look(path.as_slice(), spent)? {
             ZoneLook::Won(example) => return Ok(SearchEnd::Won(example)),
             ZoneLook::Refuted(reason) => {
                 nodes.push(CaseNode::Refuted(reason))?;

@@ -4,30 +4,20 @@ ghost use Rattle.std.specs.Prelude.{◌≡◌, ◌<◌, length};
 ghost use Rattle.league_core.specs.game.ClubSets.{clubs_in};
 ghost use Rattle.league_core.specs.game.Sheets.{IsWithinLimits};
 ghost use Rattle.league_core.specs.search.Zones.{is_test_of, is_of_rival};
-ghost use Rattle.cert_text.specs.Ranges.{is_test_in_range};
 ghost use Rattle.cert_text.specs.TreeLines as tree_lines;
 ghost use Rattle.line_tokens.specs.LineRanges as ranges;
 
-use league_core::limits::{MOST_CLUBS, MOST_FIXTURES, MOST_GOALS};
+use cert_text::is_test_below;
+use league_core::limits::{MOST_CLUBS, MOST_FIXTURES};
 use league_core::{ClubSet, Question, Reason, Sheet, Test};
 
 /// A tree for the question may split by this test.
 pub fn is_test_for(sheet: &Sheet, question: &Question, test: Test) -> bool
     ensures { result ≡ tree_lines.is_test_for sheet.now question.now test }
 {
-    is_in_range(test) && is_of_sheet(sheet, test) && !is_of_rival(question.club, test)
-}
-
-fn is_in_range(test: Test) -> bool
-    ensures { result ≡ is_test_in_range test }
-{
-    match test {
-        Test::Home { fixture } => fixture < MOST_FIXTURES,
-        Test::Draw { fixture } => fixture < MOST_FIXTURES,
-        Test::HomeMost { fixture, most } => fixture < MOST_FIXTURES && most <= MOST_GOALS - 1,
-        Test::AwayMost { fixture, most } => fixture < MOST_FIXTURES && most <= MOST_GOALS - 1,
-        Test::Rival { club } => club < MOST_CLUBS,
-    }
+    is_test_below(test, MOST_FIXTURES, MOST_CLUBS)
+        && is_of_sheet(sheet, test)
+        && !is_of_rival(question.club, test)
 }
 
 fn is_of_sheet(sheet: &Sheet, test: Test) -> bool

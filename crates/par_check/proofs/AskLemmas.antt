@@ -16,14 +16,16 @@ use Rattle.cert_check.specs.declared.stop.CheckStopAt.TheVariants as halt
 use Rattle.cert_check.specs.LineLists.{NumberedLine, tokens_of}
 use Rattle.line_tokens.specs.Tokens.{token_of}
 use Rattle.cert_check.specs.ExpectedItems.{Basis}
-use Rattle.cert_check.specs.Machine.{basis_of, whole_at}
+use Rattle.cert_check.specs.LineGrammars.{whole_at}
+use Rattle.cert_check.specs.Machine.{basis_of}
 use Rattle.cert_check.specs.inside.Calls.{ReportView}
 use Rattle.league_core.specs.declared.memory.OutOfMemory.{OutOfMemory}
 use Rattle.par_check.specs.declared.cutting.CutRead.{CutRead}
 use Rattle.par_check.specs.declared.asks.Asks.{Asks}
 use Rattle.par_check.specs.declared.asks.Item.{Item}
-use Rattle.par_check.specs.FirstStops.{GrammarCut, items_among, judged_alone, cut_of}
-use Rattle.par_check.specs.FirstStops.{wanted_by_ask, wanted_by_asks}
+use Rattle.cert_check.specs.inside.Pieces.{items_among, judged_alone, cut_of, wanted_by_ask}
+use Rattle.cert_check.specs.inside.Pieces.{wanted_by_asks}
+use Rattle.par_check.specs.FirstStops.{GrammarCut, reports}
 use Rattle.par_check.specs.Cuts.{bases_in, basis_at, unproved_by, unproved_of, grammar_cut}
 use Rattle.par_check.specs.Cuts.{items_of}
 use Rattle.par_check.specs.Cuts.{IsItemIn, IsCutSoFar, IsCutRead, CutsOver, JudgesAsk}
@@ -35,7 +37,8 @@ use Rattle.par_check.specs.Cuts.{with_pieces}
 abbrev pub AsksCut : Sheet → Asks → List NumberedLine → List Item → ℕ → ℕ → ℕ → Type 0
 AsksCut sheet asks lines items ask at count =
     IsCutSoFar (tokens_of lines) (unproved_by sheet asks (tokens_of lines))
-    (grammar_cut sheet asks lines) items (wanted_by_asks ask (drop ask (bases_in sheet asks))) at
+    (grammar_cut sheet asks lines) items
+    (wanted_by_asks reports ask (drop ask (bases_in sheet asks))) at
     count
 
 pub asks_begin : (sheet : Sheet) (asks : Asks) (lines : List NumberedLine) (items : List Item)
@@ -76,12 +79,12 @@ started : (sheet : Sheet) (asks : Asks) (lines : List NumberedLine) (ask at coun
     → AsksCut sheet asks lines old ask at count
     → IsCutSoFar (tokens_of lines) (unproved_by sheet asks (tokens_of lines))
     (grammar_cut sheet asks lines) old
-    (wanted_by_ask (basis_at sheet asks ask) ask
-    ++ wanted_by_asks (ask + 1) (drop (ask + 1) (bases_in sheet asks))) at count
+    (wanted_by_ask reports (basis_at sheet asks ask) ask
+    ++ wanted_by_asks reports (ask + 1) (drop (ask + 1) (bases_in sheet asks))) at count
 started sheet asks lines ask at count old within cut =
     let P : List Basis → Type 0 = λ it. IsCutSoFar (tokens_of lines)
     (unproved_by sheet asks (tokens_of lines)) (grammar_cut sheet asks lines) old
-    (wanted_by_asks ask it) at count in
+    (wanted_by_asks reports ask it) at count in
     subst P (ask_first sheet asks ask within) cut
 
 -- a report on the season of an ask
@@ -102,13 +105,14 @@ pub asks_on : (sheet : Sheet) (asks : Asks) (lines : List NumberedLine) (judged 
     (ask at count : ℕ) (old new : List Item) (found : PartRead)
     → ask < length asks.epochs.items → judged ≡ report_of_ask sheet asks lines ask
     → AsksCut sheet asks lines old ask at count
-    → CutsOver judged.tokens judged.basis ask (wanted_by_ask judged.basis ask) at old new (Ok found)
+    → CutsOver judged.tokens judged.basis ask (wanted_by_ask reports judged.basis ask) at old new
+    (Ok found)
     → AsksCut sheet asks lines new (ask + 1) found.next (count + found.unsettled)
 asks_on sheet asks lines judged ask at count old new found within is cut goes =
     let P : ReportView → Type 0 = λ it.
-    CutsOver it.tokens it.basis ask (wanted_by_ask it.basis ask) at old new (Ok found) in
+    CutsOver it.tokens it.basis ask (wanted_by_ask reports it.basis ask) at old new (Ok found) in
     (subst P is goes).2 (unproved_by sheet asks (tokens_of lines)) (grammar_cut sheet asks lines)
-    (wanted_by_asks (ask + 1) (drop (ask + 1) (bases_in sheet asks))) count
+    (wanted_by_asks reports (ask + 1) (drop (ask + 1) (bases_in sheet asks))) count
     (agrees_at sheet asks (tokens_of lines) ask)
     (started sheet asks lines ask at count old within cut)
 
@@ -118,16 +122,17 @@ pub asks_stop : (sheet : Sheet) (asks : Asks) (lines : List NumberedLine) (judge
     → IsTrue (is_of_lines stop)
     → ask < length asks.epochs.items → judged ≡ report_of_ask sheet asks lines ask
     → AsksCut sheet asks lines old ask at count
-    → CutsOver judged.tokens judged.basis ask (wanted_by_ask judged.basis ask) at old new (Err stop)
+    → CutsOver judged.tokens judged.basis ask (wanted_by_ask reports judged.basis ask) at old new
+    (Err stop)
     → All (IsItemIn sheet (length asks.epochs.items) (length lines)) new
     → IsCutRead sheet asks lines new (Err stop)
 asks_stop sheet asks lines judged ask at count old new (halt.BadLine place) other within is cut goes
     items =
     let P : ReportView → Type 0 = λ it. CutsOver it.tokens it.basis ask
-    (wanted_by_ask it.basis ask) at old new (Err (halt.BadLine place)) in
+    (wanted_by_ask reports it.basis ask) at old new (Err (halt.BadLine place)) in
     let halts = subst P is goes in
     let ends = halts.1 (unproved_by sheet asks (tokens_of lines)) (grammar_cut sheet asks lines)
-    (wanted_by_asks (ask + 1) (drop (ask + 1) (bases_in sheet asks))) count
+    (wanted_by_asks reports (ask + 1) (drop (ask + 1) (bases_in sheet asks))) count
     (agrees_at sheet asks (tokens_of lines) ask)
     (started sheet asks lines ask at count old within cut) in
     let shown = λ (it : NumberedLine). token_of it.text in
@@ -141,10 +146,10 @@ asks_stop sheet asks lines judged ask at count old new (halt.NoProof place) othe
     items = absurd goes
 asks_stop sheet asks lines judged ask at count old new halt.Short other within is cut goes items =
     let P : ReportView → Type 0 = λ it. CutsOver it.tokens it.basis ask
-    (wanted_by_ask it.basis ask) at old new (Err halt.Short) in
+    (wanted_by_ask reports it.basis ask) at old new (Err halt.Short) in
     let ends = subst P is goes (unproved_by sheet asks (tokens_of lines))
     (grammar_cut sheet asks lines)
-    (wanted_by_asks (ask + 1) (drop (ask + 1) (bases_in sheet asks))) count
+    (wanted_by_asks reports (ask + 1) (drop (ask + 1) (bases_in sheet asks))) count
     (agrees_at sheet asks (tokens_of lines) ask)
     (started sheet asks lines ask at count old within cut) in
     record { known = ends.known; judged = ends.judged; comes = ends.comes; within = items }
@@ -165,14 +170,16 @@ asks_end sheet asks lines ask items found all few room cut within =
     (omega (arith, all, length-map asks.epochs.items basis)) in
     let whole = grammar_cut sheet asks lines in
     let is : whole ≡ record { pieces = cut.pieces; ending = whole_at found.next found.unsettled } =
-    cut.rest ∙ ap (λ it. with_pieces cut.pieces (cut_of (tokens_of lines) (wanted_by_asks ask it)
+    cut.rest
+    ∙ ap (λ it. with_pieces cut.pieces (cut_of reports (tokens_of lines)
+    (wanted_by_asks reports ask it)
     found.next found.unsettled)) none
     ∙ ap (λ it. record { pieces = it; ending = whole_at found.next found.unsettled })
     (append-nil cut.pieces) in
     record {
       known = cut.known ∙ ap (λ (it : GrammarCut). items_of it.pieces) (sym is);
-      judged = cut.judged ∙ ap (λ (it : GrammarCut). map (judged_alone (tokens_of lines))
-          (items_among it.pieces)) (sym is);
+      judged = cut.judged ∙ ap (λ (it : GrammarCut). map (judged_alone reports (tokens_of lines))
+          (items_among reports it.pieces)) (sym is);
       comes = (few, room, ap (λ (it : GrammarCut). it.ending) is);
       within = within;
     }

@@ -1,131 +1,45 @@
 -- A cut grows piece by piece.
-use Rattle.std.proofs.Common.{◌≡◌, ◌<◌, ◌≤◌, ℕ, ◌+◌, Bool, true, false, List, [], ◌∷◌, ◌++◌, map}
-use Rattle.std.proofs.Common.{drop, length, get_or, Option, Some, None, Result, Ok, Err, refl, sym}
+use Rattle.std.proofs.Common.{◌≡◌, ◌<◌, ◌≤◌, ℕ, ◌+◌, List, [], ◌∷◌, ◌++◌, map}
+use Rattle.std.proofs.Common.{drop, length, get_or, Option, Result, Ok, Err, refl, sym}
 use Rattle.std.proofs.Common.{ap}
-use Rattle.std.proofs.Common.{subst, ◌∙◌, arith, append_assoc, append-nil, length-append}
+use Rattle.std.proofs.Common.{subst, ◌∙◌, arith, append_assoc, append-nil}
 use Rattle.std.proofs.Common.{if◌then◌else◌}
-use Rattle.std.specs.Prelude.{bytes_eq, codes, is_some}
+use Rattle.std.specs.Prelude.{is_some}
 use Rattle.std.proofs.Math.ListN.{drop_of_length-le}
 use Rattle.std.proofs.lemmas.Bool.{false≢true}
 use Rattle.std.proofs.lemmas.List.{map-append, drop_more}
 use Rattle.std.proofs.lemmas.List.Elements.{filter-append}
 use Rattle.line_tokens.specs.declared.token.Token.{Token}
-use Rattle.line_tokens.specs.declared.token.Token.TheVariants.{Blank, Row, Proof, Unknown}
 use Rattle.cert_check.specs.declared.item.PartRead.{PartRead}
 use Rattle.cert_check.specs.declared.stop.CheckStopAt.{CheckStopAt}
 use Rattle.cert_check.specs.declared.stop.CheckStopAt.TheVariants as halt
-use Rattle.cert_check.specs.ExpectedItems.{Basis, Expected, ask_row, verdict_row, Next, bad, go}
-use Rattle.cert_check.specs.ExpectedItems.{after}
-use Rattle.cert_check.specs.Machine.{Ending, whole_at, bad_line, no_proof, short, by_next}
-use Rattle.cert_check.specs.Machine.{with_unsettled, ending_of, rows_of}
+use Rattle.cert_check.specs.LineGrammars.{Ending, whole_at, bad_line}
+use Rattle.cert_check.specs.LineGrammars.{short}
+use Rattle.cert_check.specs.ExpectedItems.{Basis, Expected, ask_row, verdict_row}
+use Rattle.cert_check.specs.Machine.{rows_of, report_grammar}
 use Rattle.cert_check.specs.inside.Calls.{ReportView, ending_from, Goes}
 use Rattle.cert_check.proofs.ReachLemmas.{ends_whole}
 use Rattle.par_check.specs.declared.asks.Item.{Item}
 use Rattle.par_check.specs.declared.item_due.ItemRow.{ItemRow}
-use Rattle.par_check.specs.FirstStops.{grammar_of, grammar_from, grammar_of_piece, unproved_in}
-use Rattle.par_check.specs.FirstStops.{first_stop, WantedPiece, ReportPiece, GrammarCut}
-use Rattle.par_check.specs.FirstStops.{end_by, last_piece, cut_behind, cut_of}
-use Rattle.par_check.specs.FirstStops.{judged_alone, rows_wanted, wanted_by_ask, is_item_due}
-use Rattle.par_check.specs.FirstStops.{items_among}
+use Rattle.cert_check.specs.inside.Pieces.{grammar_of_piece, unproved_in, end_by}
+use Rattle.cert_check.specs.inside.Pieces.{last_piece, cut_behind, cut_of, judged_alone}
+use Rattle.cert_check.specs.inside.Pieces.{rows_wanted, wanted_by_ask, items_among}
+use Rattle.par_check.specs.FirstStops.{grammar_from, reports}
+use Rattle.par_check.specs.FirstStops.{WantedPiece, ReportPiece, GrammarCut}
+use Rattle.par_check.specs.FirstStops.{is_item_due}
 use Rattle.par_check.specs.Outlines.{OutlinesItem}
 use Rattle.par_check.specs.Cuts.{item_of, items_of, with_pieces, IsCutSoFar, IsCutAt, CutsOver}
 use Rattle.par_check.specs.Cuts.{JudgesAsk, row_wanted, end_outlined}
-use Rattle.par_check.proofs.StopLemmas.{splits, first_unproved, ask_row_believed}
-
--- ---- how many lines a reading takes
-
--- the position, the count and the kind of an ending
-abbrev next_in : Ending → ℕ
-next_in (whole_at at unsettled) = at
-next_in (bad_line at) = 0
-next_in (no_proof at) = 0
-next_in short = 0
-
-abbrev unsettled_in : Ending → ℕ
-unsettled_in (whole_at at unsettled) = unsettled
-unsettled_in (bad_line at) = 0
-unsettled_in (no_proof at) = 0
-unsettled_in short = 0
-
-abbrev is_whole : Ending → Bool
-is_whole (whole_at at unsettled) = true
-is_whole (bad_line at) = false
-is_whole (no_proof at) = false
-is_whole short = false
-
--- one more unsettled row at most
-one_more : (unsettled : ℕ) (is : Bool)
-    → (if is then unsettled + 1 else unsettled) ≤ unsettled + 1
-one_more unsettled true = omega arith
-one_more unsettled false = omega arith
-
-count_more : (unsettled : ℕ) (token : Token) → with_unsettled unsettled token ≤ unsettled + 1
-count_more unsettled Blank = omega arith
-count_more unsettled (Row fields) =
-    one_more unsettled (bytes_eq (get_or fields 3 []) (codes "unsettled"))
-count_more unsettled (Proof it) = omega arith
-count_more unsettled Unknown = omega arith
-
--- one line
-takes_by : (basis : Basis) (tokens : List Token) (due : Expected) (dues : List Expected)
-    (at unsettled next count : ℕ) (token : Token) (found : Next)
-    → ((more : List Expected) → ending_of basis tokens (more ++ dues) (at + 1)
-    (with_unsettled unsettled token) ≡ whole_at next count
-    → (at + 1 + length (more ++ dues) ≤ next)
-    × (at + 1 + count ≤ with_unsettled unsettled token + next))
-    → by_next found at (λ more. ending_of basis tokens (more ++ dues) (at + 1)
-    (with_unsettled unsettled token)) ≡ whole_at next count
-    → (at + length (due ∷ dues) ≤ next) × (at + count ≤ unsettled + next)
-takes_by basis tokens due dues at unsettled next count token bad rest ends =
-    absurd (false≢true (ap is_whole ends))
-takes_by basis tokens due dues at unsettled next count token (go false more) rest ends =
-    absurd (false≢true (ap is_whole ends))
-takes_by basis tokens due dues at unsettled next count token (go true more) rest ends =
-    let taken = rest more ends in (
-      omega (arith, taken.0, length-append more dues),
-      omega (arith, taken.1, count_more unsettled token),
-    )
-
--- each thing due takes a line at least, and each unsettled row takes one
-pub takes_lines : (basis : Basis) (tokens : List Token) (dues : List Expected)
-    (at unsettled next count : ℕ) → ending_of basis tokens dues at unsettled ≡ whole_at next count
-    → (at + length dues ≤ next) × (at + count ≤ unsettled + next)
-takes_lines basis [] [] at unsettled next count is =
-    (omega (arith, ap next_in is), omega (arith, ap next_in is, ap unsettled_in is))
-takes_lines basis [] (due ∷ dues) at unsettled next count is =
-    absurd (false≢true (ap is_whole is))
-takes_lines basis (token ∷ tokens) [] at unsettled next count is =
-    (omega (arith, ap next_in is), omega (arith, ap next_in is, ap unsettled_in is))
-takes_lines basis (token ∷ tokens) (due ∷ dues) at unsettled next count is =
-    takes_by basis tokens due dues at unsettled next count token (after basis due token)
-    (λ more. takes_lines basis tokens (more ++ dues) (at + 1) (with_unsettled unsettled token) next
-    count) is
-
--- ---- where nothing is no proof, the grammar says what the reading says
-
-pub grammar_where_proved : (basis : Basis) (tokens : List Token) (dues : List Expected)
-    (at unsettled : ℕ) → unproved_in (ending_of basis tokens dues at unsettled) ≡ None
-    → grammar_of basis tokens dues at unsettled ≡ ending_of basis tokens dues at unsettled
-grammar_where_proved basis tokens dues at unsettled proved =
-    let reading = ending_of basis tokens dues at unsettled in
-    let grammar = grammar_of basis tokens dues at unsettled in
-    by_found (first_unproved basis tokens dues at) (splits basis tokens dues at unsettled)
-  where
-    by_found : (found : Option ℕ) → ending_of basis tokens dues at unsettled
-        ≡ first_stop found (grammar_of basis tokens dues at unsettled)
-        → grammar_of basis tokens dues at unsettled
-        ≡ ending_of basis tokens dues at unsettled
-    by_found None same = sym same
-    by_found (Some place) same = absurd (some_none place (sym (ap unproved_in same) ∙ proved))
-      where
-        some_none : (place : ℕ) → Some place ≡ None → ⊥
-        some_none place is = false≢true (sym (ap (λ (it : Option ℕ). is_some it) is))
+use Rattle.cert_check.proofs.MachineLemmas.{grammar_where_proved}
+use Rattle.cert_check.proofs.CountLemmas.{takes_lines}
+use Rattle.par_check.proofs.StopLemmas.{ask_row_believed}
 
 -- ---- pieces
 
 -- items of pieces, one more
 items_push : (pieces : List ReportPiece) (piece : ReportPiece)
-    → items_among (pieces ++ piece ∷ []) ≡ items_among pieces ++ items_among (piece ∷ [])
+    → items_among reports (pieces ++ piece ∷ [])
+    ≡ items_among reports pieces ++ items_among reports (piece ∷ [])
 items_push pieces piece =
     filter-append (λ (it : ReportPiece). is_item_due it.wanted.due) pieces (piece ∷ [])
 
@@ -134,26 +48,27 @@ pub record Adds (tokens : List Token) (judge : Item → Option ℕ) (piece : Rep
     (old new : List Item) : Type 0 where
   pub known : new ≡ old ++ items_of (piece ∷ [])
   pub judged : map judge (items_of (piece ∷ []))
-      ≡ map (judged_alone tokens) (items_among (piece ∷ []))
+      ≡ map (judged_alone reports tokens) (items_among reports (piece ∷ []))
 
 adds_known : (pieces : List ReportPiece) (piece : ReportPiece) (old new : List Item)
     → old ≡ items_of pieces → new ≡ old ++ items_of (piece ∷ [])
     → new ≡ items_of (pieces ++ piece ∷ [])
 adds_known pieces piece old new before more =
     more ∙ ap (λ it. it ++ items_of (piece ∷ [])) before
-    ∙ sym (map-append item_of (items_among pieces) (items_among (piece ∷ [])))
+    ∙ sym (map-append item_of (items_among reports pieces) (items_among reports (piece ∷ [])))
     ∙ ap (map item_of) (sym (items_push pieces piece))
 
 adds_judged : (tokens : List Token) (judge : Item → Option ℕ) (pieces : List ReportPiece)
     (piece : ReportPiece) (old new : List Item) → Adds tokens judge piece old new
-    → map judge old ≡ map (judged_alone tokens) (items_among pieces)
-    → map judge new ≡ map (judged_alone tokens) (items_among (pieces ++ piece ∷ []))
+    → map judge old ≡ map (judged_alone reports tokens) (items_among reports pieces)
+    → map judge new ≡ map (judged_alone reports tokens) (items_among reports (pieces ++ piece ∷ []))
 adds_judged tokens judge pieces piece old new adds before =
     ap (map judge) adds.known ∙ map-append judge old (items_of (piece ∷ []))
     ∙ ap (λ it. it ++ map judge (items_of (piece ∷ []))) before
-    ∙ ap (λ it. map (judged_alone tokens) (items_among pieces) ++ it) adds.judged
-    ∙ sym (map-append (judged_alone tokens) (items_among pieces) (items_among (piece ∷ [])))
-    ∙ ap (map (judged_alone tokens)) (sym (items_push pieces piece))
+    ∙ ap (λ it. map (judged_alone reports tokens) (items_among reports pieces) ++ it) adds.judged
+    ∙ sym (map-append (judged_alone reports tokens) (items_among reports pieces)
+    (items_among reports (piece ∷ [])))
+    ∙ ap (map (judged_alone reports tokens)) (sym (items_push pieces piece))
 
 -- the piece that is cut where this is wanted, and the grammar comes to this
 abbrev pub piece_by : List Token → WantedPiece → ℕ → Ending → ReportPiece
@@ -161,23 +76,23 @@ piece_by tokens wanted at ending =
     record { wanted = wanted; from = at; until = end_by tokens ending }
 
 cut_by : (tokens : List Token) (wanted : WantedPiece) (later : List WantedPiece) (at before : ℕ)
-    (ending : Ending) → grammar_of_piece tokens wanted at before ≡ ending
-    → cut_of tokens (wanted ∷ later) at before
-    ≡ cut_behind (piece_by tokens wanted at ending) ending (cut_of tokens later)
+    (ending : Ending) → grammar_of_piece reports tokens wanted at before ≡ ending
+    → cut_of reports tokens (wanted ∷ later) at before
+    ≡ cut_behind (piece_by tokens wanted at ending) ending (cut_of reports tokens later)
 cut_by tokens wanted later at before ending is =
-    ap (λ it. cut_behind (piece_by tokens wanted at it) it (cut_of tokens later)) is
+    ap (λ it. cut_behind (piece_by tokens wanted at it) it (cut_of reports tokens later)) is
 
 -- the grammar is through with a piece
 pub piece_through : (tokens : List Token) (judge : Item → Option ℕ) (whole : GrammarCut)
     (old new : List Item) (wanted : WantedPiece) (later : List WantedPiece)
     (at before next count : ℕ)
-    → grammar_of_piece tokens wanted at before ≡ whole_at next count
+    → grammar_of_piece reports tokens wanted at before ≡ whole_at next count
     → Adds tokens judge (piece_by tokens wanted at (whole_at next count)) old new
     → IsCutSoFar tokens judge whole old (wanted ∷ later) at before
     → IsCutSoFar tokens judge whole new later next count
 piece_through tokens judge whole old new wanted later at before next count is adds far =
     let piece = piece_by tokens wanted at (whole_at next count) in
-    let rest = cut_of tokens later next count in
+    let rest = cut_of reports tokens later next count in
     record {
       pieces = far.pieces ++ piece ∷ [];
       known = adds_known far.pieces piece old new far.known adds.known;
@@ -191,8 +106,8 @@ piece_through tokens judge whole old new wanted later at before next count is ad
 -- the grammar stops at a piece
 pub piece_stops : (tokens : List Token) (judge : Item → Option ℕ) (whole : GrammarCut)
     (old new : List Item) (wanted : WantedPiece) (later : List WantedPiece) (at before : ℕ)
-    (ending : Ending) → grammar_of_piece tokens wanted at before ≡ ending
-    → cut_behind (piece_by tokens wanted at ending) ending (cut_of tokens later)
+    (ending : Ending) → grammar_of_piece reports tokens wanted at before ≡ ending
+    → cut_behind (piece_by tokens wanted at ending) ending (cut_of reports tokens later)
     ≡ last_piece (piece_by tokens wanted at ending) ending
     → Adds tokens judge (piece_by tokens wanted at ending) old new
     → IsCutSoFar tokens judge whole old (wanted ∷ later) at before
@@ -207,7 +122,8 @@ piece_stops tokens judge whole old new wanted later at before ending is last add
       known = adds_known far.pieces piece old new far.known adds.known
           ∙ ap (λ (it : GrammarCut). items_of it.pieces) (sym same);
       judged = adds_judged tokens judge far.pieces piece old new adds far.judged
-          ∙ ap (λ (it : GrammarCut). map (judged_alone tokens) (items_among it.pieces)) (sym same);
+          ∙ ap (λ (it : GrammarCut). map (judged_alone reports tokens)
+          (items_among reports it.pieces)) (sym same);
       comes = ap (λ (it : GrammarCut). it.ending) same;
     }
 
@@ -224,13 +140,13 @@ row_adds : (judged : ReportView) (ask row from until : ℕ) (about : ItemRow)
 row_adds judged ask row from until about judge old new due more agrees =
     let piece : ReportPiece =
     record { wanted = row_wanted judged.basis ask row; from = from; until = until } in
-    let one : items_among (piece ∷ []) ≡ piece ∷ [] =
+    let one : items_among reports (piece ∷ []) ≡ piece ∷ [] =
     ap (λ it. if is_item_due it then piece ∷ [] else []) due in
     record {
       known = more ∙ ap (λ it. old ++ map item_of it) (sym one);
       judged = ap (λ it. map judge (map item_of it)) one
           ∙ ap (λ it. it ∷ []) (agrees (item_of piece) refl)
-          ∙ ap (map (judged_alone judged.tokens)) (sym one);
+          ∙ ap (map (judged_alone reports judged.tokens)) (sym one);
     }
 
 -- a row that was gone over by the grammar is cut
@@ -374,7 +290,8 @@ ask_grammar : (judged : ReportView) (from before : ℕ) (ending : Ending)
     → ending_from judged from (ask_row ∷ []) before ≡ ending
     → grammar_from judged from (ask_row ∷ []) before ≡ ending
 ask_grammar judged from before ending is =
-    grammar_where_proved judged.basis (drop from judged.tokens) (ask_row ∷ []) from before
+    grammar_where_proved report_grammar judged.basis (drop from judged.tokens) (ask_row ∷ [])
+    from before
     (ask_row_believed judged.basis (drop from judged.tokens) from before) ∙ is
 
 ask_adds : (judged : ReportView) (ask from until : ℕ) (judge : Item → Option ℕ) (old : List Item)
@@ -389,12 +306,14 @@ pub ask_through : (judged : ReportView) (ask from behind : ℕ) (old new : List 
     → Goes judged from ask_row (Ok behind)
     → CutsOver judged.tokens judged.basis ask
     (rows_wanted judged.basis ask 0 (rows_of judged.basis.sheet)) behind old new result
-    → CutsOver judged.tokens judged.basis ask (wanted_by_ask judged.basis ask) from old new result
+    → CutsOver judged.tokens judged.basis ask (wanted_by_ask reports judged.basis ask) from old new
+    result
 ask_through judged ask from behind old new result room goes cut =
     by_result result cut
   where
     on : (judge : Item → Option ℕ) (whole : GrammarCut) (later : List WantedPiece) (before : ℕ)
-        → IsCutSoFar judged.tokens judge whole old (wanted_by_ask judged.basis ask ++ later) from
+        → IsCutSoFar judged.tokens judge whole old
+        (wanted_by_ask reports judged.basis ask ++ later) from
         before
         → IsCutSoFar judged.tokens judge whole old
         (rows_wanted judged.basis ask 0 (rows_of judged.basis.sheet) ++ later) behind before
@@ -408,14 +327,15 @@ ask_through judged ask from behind old new result room goes cut =
 
     behind_row : from ≤ behind
     behind_row =
-        let taken = takes_lines judged.basis (drop from judged.tokens) (ask_row ∷ []) from 0 behind
-        0 (goes.1 [] 0 ∙ ends_whole judged behind 0) in
+        let taken = takes_lines report_grammar judged.basis (drop from judged.tokens)
+        (ask_row ∷ []) from 0 behind 0 (goes.1 [] 0 ∙ ends_whole judged behind 0) in
         omega (arith, taken.0)
 
     by_result : (result : Result PartRead CheckStopAt)
         → CutsOver judged.tokens judged.basis ask
         (rows_wanted judged.basis ask 0 (rows_of judged.basis.sheet)) behind old new result
-        → CutsOver judged.tokens judged.basis ask (wanted_by_ask judged.basis ask) from old new
+        → CutsOver judged.tokens judged.basis ask (wanted_by_ask reports judged.basis ask) from old
+        new
         result
     by_result (Ok found) cut = (
       omega (arith, cut.0, behind_row),
@@ -436,7 +356,7 @@ ask_through judged ask from behind old new result room goes cut =
 -- the reading stops at the row of an ask
 pub ask_stops : (judged : ReportView) (ask from : ℕ) (old : List Item) (stop : CheckStopAt)
     → Goes judged from ask_row (Err stop)
-    → CutsOver judged.tokens judged.basis ask (wanted_by_ask judged.basis ask) from old old
+    → CutsOver judged.tokens judged.basis ask (wanted_by_ask reports judged.basis ask) from old old
     (Err stop)
 ask_stops judged ask from old (halt.BadLine at) halts = (
   halts.0,

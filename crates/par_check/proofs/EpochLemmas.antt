@@ -1,14 +1,13 @@
 -- The epoch of an ask is told by its own row alone: items come to the same by any.
-use Rattle.std.proofs.Common.{◌≡◌, ℕ, ◌+◌, ◌&&◌, ◌==◌, Bool, true, false, List, [], ◌∷◌, ◌++◌}
+use Rattle.std.proofs.Common.{◌≡◌, ℕ, ◌&&◌, ◌==◌, Bool, true, false, List, [], ◌∷◌, ◌++◌}
 use Rattle.std.proofs.Common.{Option}
-use Rattle.std.proofs.Common.{Some, None, refl, sym, ap, ◌∙◌, drop, length, get_or, map}
+use Rattle.std.proofs.Common.{Some, None, refl, ap, length}
 use Rattle.std.proofs.Common.{if◌then◌else◌}
 use Rattle.std.specs.List.{list_all}
-use Rattle.std.proofs.lemmas.Bool.{false≢true, and_parts, and_from}
-use Rattle.std.proofs.lemmas.List.Folds.{list_all-append}
+use Rattle.std.proofs.lemmas.Bool.{false≢true}
 use Rattle.league_core.specs.declared.sheet.Sheet.{Sheet}
 use Rattle.league_core.specs.declared.question.Question.{Question}
-use Rattle.league_core.specs.declared.question.Claim.TheVariants.{Inside, Outside}
+use Rattle.league_core.specs.declared.question.Claim.TheVariants.{Inside}
 use Rattle.league_core.specs.declared.season.Score.{Score}
 use Rattle.league_core.specs.declared.tree.TreeNode.{TreeNode}
 use Rattle.league_core.specs.declared.tree.TreeNode.TheVariants as node
@@ -30,7 +29,8 @@ use Rattle.line_tokens.specs.declared.token.Token.{Token}
 use Rattle.line_tokens.specs.declared.token.Token.TheVariants.{Blank, Row, Proof, Unknown}
 use Rattle.cert_check.specs.ExpectedItems.{Basis, Expected, ask_row, verdict_row, tree_head}
 use Rattle.cert_check.specs.ExpectedItems.{spent_head, finish_head, both_parts, one_part, nodes}
-use Rattle.cert_check.specs.ExpectedItems.{score, lots, Next, bad, go, after, scores_due}
+use Rattle.cert_check.specs.LineGrammars.{Next, bad, go}
+use Rattle.cert_check.specs.ExpectedItems.{score, lots, after, scores_due}
 use Rattle.cert_check.specs.ExpectedItems.{whole_example, promised, after_tree_head}
 use Rattle.cert_check.specs.ExpectedItems.{after_spent_head, after_finish_head, after_one_part}
 use Rattle.cert_check.specs.ExpectedItems.{after_both_parts, after_leaf, after_node_if}
@@ -39,7 +39,8 @@ use Rattle.line_tokens.specs.TreeNodes.{node_in}
 use Rattle.line_tokens.specs.LineRanges.{is_reason_for, name_of_club}
 use Rattle.cert_check.specs.ExpectedItems.{word_in_row, with_open}
 use Rattle.cert_check.specs.ExpectedItems.{finish_with}
-use Rattle.cert_check.specs.Machine.{Ending, by_next, ending_of, with_unsettled, basis_of}
+use Rattle.cert_check.specs.Machine.{ending_of, report_grammar, basis_of}
+use Rattle.cert_check.proofs.AlikeLemmas.{Agree, same_where_agreed}
 use Rattle.par_check.specs.FirstStops.{is_item_due}
 
 -- ---- what is due behind an item's line
@@ -49,13 +50,8 @@ abbrev pub are_items : List Expected → Bool
 are_items dues = list_all is_item_due dues
 
 -- a line that is judged alike by both leaves no row of an ask due
-abbrev leaves_items : Next → Bool
-leaves_items bad = true
-leaves_items (go holds more) = are_items more
-
-record Alike (one other : Next) : Type 0 where
-  same : one ≡ other
-  items : leaves_items one ≡ true
+abbrev Alike : Next Expected → Next Expected → Type 0
+Alike one other = Agree is_item_due one other
 
 scores_are : (question : Question) (ended left : List (Option Score))
     → is_item_due (scores_due question ended left) ≡ true
@@ -68,42 +64,32 @@ example_is : (basis : Basis) (question : Question)
     → is_item_due (whole_example basis question) ≡ true
 example_is basis question = scores_are question [] basis.season.scores
 
-alike_if : (is : Bool) (one other : Next) → Alike one other
+alike_if : (is : Bool) (one other : Next Expected) → Alike one other
     → Alike (if is then one else bad) (if is then other else bad)
 alike_if true one other are = are
-alike_if false one other are = record { same = refl; items = refl }
+alike_if false one other are = record { same = refl; leaves = refl }
 
 alike_word : (line club : ℕ) (word : Option RowWord)
     → Alike (promised line club word) (promised line club word)
-alike_word line club None = record { same = refl; items = refl }
-alike_word line club (Some Clinched) = record { same = refl; items = refl }
-alike_word line club (Some Lost) = record { same = refl; items = refl }
-alike_word line club (Some Possible) = record { same = refl; items = refl }
-alike_word line club (Some Unsettled) = record { same = refl; items = refl }
+alike_word line club None = record { same = refl; leaves = refl }
+alike_word line club (Some Clinched) = record { same = refl; leaves = refl }
+alike_word line club (Some Lost) = record { same = refl; leaves = refl }
+alike_word line club (Some Possible) = record { same = refl; leaves = refl }
+alike_word line club (Some Unsettled) = record { same = refl; leaves = refl }
 
 alike_tree : (question : Question) (head : Option Head)
     → Alike (after_tree_head question head) (after_tree_head question head)
-alike_tree question None = record { same = refl; items = refl }
-alike_tree question (Some RefutedTree) = record { same = refl; items = refl }
-alike_tree question (Some SpentTree) = record { same = refl; items = refl }
-alike_tree question (Some Example) = record { same = refl; items = refl }
+alike_tree question None = record { same = refl; leaves = refl }
+alike_tree question (Some RefutedTree) = record { same = refl; leaves = refl }
+alike_tree question (Some SpentTree) = record { same = refl; leaves = refl }
+alike_tree question (Some Example) = record { same = refl; leaves = refl }
 
 alike_spent : (question : Question) (head : Option Head)
     → Alike (after_spent_head question head) (after_spent_head question head)
-alike_spent question None = record { same = refl; items = refl }
-alike_spent question (Some RefutedTree) = record { same = refl; items = refl }
-alike_spent question (Some SpentTree) = record { same = refl; items = refl }
-alike_spent question (Some Example) = record { same = refl; items = refl }
-
--- one line of two readings
-step_alike : (one other : Next) (at : ℕ) (here there : List Expected → Ending) → Alike one other
-    → ((more : List Expected) → are_items more ≡ true → here more ≡ there more)
-    → by_next one at here ≡ by_next other at there
-step_alike bad other at here there alike rest = ap (λ it. by_next it at there) alike.same
-step_alike (go false more) other at here there alike rest =
-    ap (λ it. by_next it at there) alike.same
-step_alike (go true more) other at here there alike rest =
-    rest more alike.items ∙ ap (λ it. by_next it at there) alike.same
+alike_spent question None = record { same = refl; leaves = refl }
+alike_spent question (Some RefutedTree) = record { same = refl; leaves = refl }
+alike_spent question (Some SpentTree) = record { same = refl; leaves = refl }
+alike_spent question (Some Example) = record { same = refl; leaves = refl }
 
 module _ (sheet : Sheet) (season : Results) (epoch other : ℕ) where
   abbrev first : Basis
@@ -114,50 +100,50 @@ module _ (sheet : Sheet) (season : Results) (epoch other : ℕ) where
 
   alike_finish : (question : Question) (head : Option Head)
       → Alike (after_finish_head first question head) (after_finish_head second question head)
-  alike_finish question None = record { same = refl; items = refl }
-  alike_finish question (Some RefutedTree) = record { same = refl; items = refl }
-  alike_finish question (Some SpentTree) = record { same = refl; items = refl }
+  alike_finish question None = record { same = refl; leaves = refl }
+  alike_finish question (Some RefutedTree) = record { same = refl; leaves = refl }
+  alike_finish question (Some SpentTree) = record { same = refl; leaves = refl }
   alike_finish question (Some Example) =
-      record { same = refl; items = ap (λ it. it && true) (example_is first question) }
+      record { same = refl; leaves = ap (λ it. it && true) (example_is first question) }
 
   alike_one : (question : Question) (head : Option Head)
       → Alike (after_one_part first question head) (after_one_part second question head)
-  alike_one question None = record { same = refl; items = refl }
-  alike_one question (Some RefutedTree) = record { same = refl; items = refl }
-  alike_one question (Some SpentTree) = record { same = refl; items = refl }
+  alike_one question None = record { same = refl; leaves = refl }
+  alike_one question (Some RefutedTree) = record { same = refl; leaves = refl }
+  alike_one question (Some SpentTree) = record { same = refl; leaves = refl }
   alike_one question (Some Example) =
-      record { same = refl; items = ap (λ it. it && true) (example_is first question) }
+      record { same = refl; leaves = ap (λ it. it && true) (example_is first question) }
 
   alike_both : (inside outside : Question) (head : Option Head)
       → Alike (after_both_parts first inside outside head)
       (after_both_parts second inside outside head)
-  alike_both inside outside None = record { same = refl; items = refl }
-  alike_both inside outside (Some RefutedTree) = record { same = refl; items = refl }
-  alike_both inside outside (Some SpentTree) = record { same = refl; items = refl }
+  alike_both inside outside None = record { same = refl; leaves = refl }
+  alike_both inside outside (Some RefutedTree) = record { same = refl; leaves = refl }
+  alike_both inside outside (Some SpentTree) = record { same = refl; leaves = refl }
   alike_both inside outside (Some Example) =
-      record { same = refl; items = ap (λ it. it && true) (example_is first inside) }
+      record { same = refl; leaves = ap (λ it. it && true) (example_is first inside) }
 
   alike_leaf : (kind : TreeKind) (question : Question) (zones : List (List Literal))
       (tally : Tally) (holds : Bool)
       → Alike (after_leaf first kind question zones tally holds)
       (after_leaf second kind question zones tally holds)
-  alike_leaf kind question [] tally holds = record { same = refl; items = refl }
-  alike_leaf kind question (zone ∷ zones) tally holds = record { same = refl; items = refl }
+  alike_leaf kind question [] tally holds = record { same = refl; leaves = refl }
+  alike_leaf kind question (zone ∷ zones) tally holds = record { same = refl; leaves = refl }
 
   alike_node : (kind : TreeKind) (question : Question) (zone : List Literal)
       (zones : List (List Literal)) (tally : Tally) (it : Option TreeNode)
       → Alike (after_node_if first kind question zone zones tally it)
       (after_node_if second kind question zone zones tally it)
-  alike_node kind question zone zones tally None = record { same = refl; items = refl }
+  alike_node kind question zone zones tally None = record { same = refl; leaves = refl }
   alike_node kind question zone zones tally (Some (node.Split test fresh)) =
-      alike_if (is_test_for sheet question test) _ _ (record { same = refl; items = refl })
+      alike_if (is_test_for sheet question test) _ _ (record { same = refl; leaves = refl })
   alike_node kind question zone zones tally (Some (node.Refuted reason fresh)) =
       alike_if (is_reason_for sheet question reason) _ _
       (alike_leaf kind question zones _ _)
   alike_node kind question zone zones tally (Some node.Open) =
       alike_leaf kind question zones (with_open tally) true
   alike_node kind question zone zones tally (Some (node.Lent number)) =
-      record { same = refl; items = refl }
+      record { same = refl; leaves = refl }
 
   alike_score : (question : Question) (ended left : List (Option Score)) (it : ProofLine)
       → Alike (after_score first question ended left it)
@@ -167,9 +153,9 @@ module _ (sheet : Sheet) (season : Results) (epoch other : ℕ) where
       (go true (scores_due question (ended ++ Some ending ∷ []) left ∷ []))
       (go true (scores_due question (ended ++ Some ending ∷ []) left ∷ [])) (record {
         same = refl;
-        items = ap (λ it. it && true) (scores_are question (ended ++ Some ending ∷ []) left);
+        leaves = ap (λ it. it && true) (scores_are question (ended ++ Some ending ∷ []) left);
       })
-  alike_score question ended left _ = record { same = refl; items = refl }
+  alike_score question ended left _ = record { same = refl; leaves = refl }
 
   alike_lots : (question : Question) (ended : List (Option Score)) (it : ProofLine)
       → Alike (after_lots first question ended it) (after_lots second question ended it)
@@ -177,20 +163,20 @@ module _ (sheet : Sheet) (season : Results) (epoch other : ℕ) where
       alike_if (are_lots (length sheet.clubs) list.list)
       (go (holds_at sheet question (finish_with season ended) list.list) [])
       (go (holds_at sheet question (finish_with season ended) list.list) [])
-      (record { same = refl; items = refl })
-  alike_lots question ended _ = record { same = refl; items = refl }
+      (record { same = refl; leaves = refl })
+  alike_lots question ended _ = record { same = refl; leaves = refl }
 
   -- a line that comes where something of an item is due
   alike_line : (due : Expected) (token : Token) → is_item_due due ≡ true
       → Alike (after first due token) (after second due token)
-  alike_line due Blank item = record { same = refl; items = ap (λ it. it && true) item }
-  alike_line due Unknown item = record { same = refl; items = refl }
+  alike_line due Blank item = record { same = refl; leaves = ap (λ it. it && true) item }
+  alike_line due Unknown item = record { same = refl; leaves = refl }
   alike_line ask_row (Row fields) item = absurd (false≢true item)
   alike_line (verdict_row line club) (Row fields) item =
       alike_word line club (word_in_row line (name_of_club sheet club) fields)
-  alike_line _ (Row fields) item = record { same = refl; items = refl }
+  alike_line _ (Row fields) item = record { same = refl; leaves = refl }
   alike_line ask_row (Proof it) item = absurd (false≢true item)
-  alike_line (verdict_row line club) (Proof it) item = record { same = refl; items = refl }
+  alike_line (verdict_row line club) (Proof it) item = record { same = refl; leaves = refl }
   alike_line (tree_head question) (Proof it) item =
       alike_tree question (head_in question.claim it)
   alike_line (spent_head question) (Proof it) item =
@@ -209,16 +195,7 @@ module _ (sheet : Sheet) (season : Results) (epoch other : ℕ) where
   pub alike_lines : (tokens : List Token) (dues : List Expected) (at unsettled : ℕ)
       → are_items dues ≡ true
       → ending_of first tokens dues at unsettled ≡ ending_of second tokens dues at unsettled
-  alike_lines [] [] at unsettled items = refl
-  alike_lines [] (due ∷ dues) at unsettled items = refl
-  alike_lines (token ∷ tokens) [] at unsettled items = refl
-  alike_lines (token ∷ tokens) (due ∷ dues) at unsettled items =
-      let parts = and_parts (is_item_due due) (are_items dues) items in
-      let count = with_unsettled unsettled token in
-      step_alike (after first due token) (after second due token) at
-      (λ more. ending_of first tokens (more ++ dues) (at + 1) count)
-      (λ more. ending_of second tokens (more ++ dues) (at + 1) count)
-      (alike_line due token parts.0)
-      (λ more are. alike_lines tokens (more ++ dues) (at + 1) count
-      (list_all-append is_item_due more dues
-      ∙ and_from (are_items more) (are_items dues) are parts.1))
+  unfolding report_grammar
+  alike_lines tokens dues at unsettled items =
+      same_where_agreed report_grammar first second is_item_due alike_line tokens dues at
+      unsettled items

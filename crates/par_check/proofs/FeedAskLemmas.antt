@@ -1,8 +1,7 @@
 -- A report by the entries of a feed is the report by their asks.
-use Rattle.std.proofs.Common.{◌≡◌, ℕ, ◌+◌, ◌*◌, Bool, true, false, List, [], ◌∷◌, ◌++◌, drop}
+use Rattle.std.proofs.Common.{◌≡◌, ℕ, ◌+◌, ◌*◌, List, [], ◌∷◌, drop}
 use Rattle.std.proofs.Common.{length}
-use Rattle.std.proofs.Common.{get_or, refl, sym, ap, ◌∙◌, arith, if◌then◌else◌}
-use Rattle.std.specs.Prelude.{bytes_eq, codes}
+use Rattle.std.proofs.Common.{refl, sym, ap, ◌∙◌, arith, if◌then◌else◌}
 use Rattle.league_core.specs.declared.sheet.Sheet.{Sheet}
 use Rattle.std.proofs.Common.{take, subst, Result, Ok, Err, IfOk}
 use Rattle.std.proofs.lemmas.List.{length-map}
@@ -21,67 +20,22 @@ use Rattle.par_check.specs.Checked.{AnswersSo, ending_in, rows_in}
 use Rattle.par_check.proofs.RowAtLemmas.{rows_count}
 use Rattle.result_log.specs.declared.entry.Entry.{Entry}
 use Rattle.result_log.specs.declared.entry.Entry.TheVariants.{Change, Ask, Proofs, End}
-use Rattle.line_tokens.specs.declared.token.Token.{Token}
-use Rattle.line_tokens.specs.declared.token.Token.TheVariants.{Blank, Row, Proof, Unknown}
 use Rattle.cert_check.specs.LineLists.{NumberedLine, tokens_of}
 use Rattle.line_tokens.specs.Tokens.{token_of, counts}
-use Rattle.cert_check.specs.ExpectedItems.{Basis, Expected, Next, bad, go, after}
-use Rattle.cert_check.specs.Machine.{Ending, whole_at, bad_line, no_proof, short, by_next}
-use Rattle.cert_check.specs.Machine.{with_unsettled, ending_of, basis_of, part_of_ask}
+use Rattle.cert_check.specs.LineGrammars.{Ending, whole_at, bad_line, no_proof}
+use Rattle.cert_check.specs.LineGrammars.{short}
+use Rattle.cert_check.specs.ExpectedItems.{Basis}
+use Rattle.cert_check.specs.Machine.{basis_of, part_of_ask, report_grammar}
 use Rattle.cert_check.specs.inside.Calls.{ending_from}
 use Rattle.cert_check.specs.declared.outcome.CheckOutcome.{CheckOutcome}
 use Rattle.cert_check.specs.declared.outcome.CheckOutcome.TheVariants.{Accepted, Refused}
 use Rattle.cert_check.specs.declared.outcome.ReportFault.TheVariants.{BadLine}
 use Rattle.cert_check.specs.Outcomes.{ReportInput, ReportProgressView, outcome_from, outcome_by}
 use Rattle.cert_check.specs.Outcomes.{outcome_at_end, part_there, progress_with, progress_after}
-use Rattle.par_check.specs.FirstStops.{ending_of_asks, go_on_by, judged_by}
+use Rattle.cert_check.specs.inside.Pieces.{ending_of_asks, go_on_by}
+use Rattle.cert_check.proofs.CountLemmas.{with_more, ending_shifted}
+use Rattle.par_check.specs.FirstStops.{judged_by, reports}
 use Rattle.par_check.specs.FeedAsks.{bases_from, outcome_of_ending, standing_at_end}
-
--- more unsettled rows before
-abbrev with_more : ℕ → Ending → Ending
-with_more more (whole_at at unsettled) = whole_at at (more + unsettled)
-with_more more (bad_line at) = bad_line at
-with_more more (no_proof at) = no_proof at
-with_more more short = short
-
-one_shifted : (more unsettled : ℕ) (is : Bool)
-    → (if is then more + unsettled + 1 else more + unsettled)
-    ≡ more + (if is then unsettled + 1 else unsettled)
-one_shifted more unsettled true = omega arith
-one_shifted more unsettled false = refl
-
-count_shifted : (more unsettled : ℕ) (token : Token)
-    → with_unsettled (more + unsettled) token ≡ more + with_unsettled unsettled token
-count_shifted more unsettled Blank = refl
-count_shifted more unsettled (Row fields) =
-    one_shifted more unsettled (bytes_eq (get_or fields 3 []) (codes "unsettled"))
-count_shifted more unsettled (Proof it) = refl
-count_shifted more unsettled Unknown = refl
-
-step_shifted : (next : Next) (at more : ℕ) (far near : List Expected → Ending)
-    → ((dues : List Expected) → far dues ≡ with_more more (near dues))
-    → by_next next at far ≡ with_more more (by_next next at near)
-step_shifted bad at more far near same = refl
-step_shifted (go false dues) at more far near same = refl
-step_shifted (go true dues) at more far near same = same dues
-
--- what was counted before is counted still
-pub ending_shifted : (basis : Basis) (tokens : List Token) (dues : List Expected)
-    (at more unsettled : ℕ)
-    → ending_of basis tokens dues at (more + unsettled)
-    ≡ with_more more (ending_of basis tokens dues at unsettled)
-ending_shifted basis [] [] at more unsettled = refl
-ending_shifted basis [] (due ∷ dues) at more unsettled = refl
-ending_shifted basis (token ∷ tokens) [] at more unsettled = refl
-ending_shifted basis (token ∷ tokens) (due ∷ dues) at more unsettled =
-    let count = with_unsettled unsettled token in
-    step_shifted (after basis due token) at more
-    (λ rest. ending_of basis tokens (rest ++ dues) (at + 1)
-    (with_unsettled (more + unsettled) token))
-    (λ rest. ending_of basis tokens (rest ++ dues) (at + 1) count)
-    (λ rest. ap (ending_of basis tokens (rest ++ dues) (at + 1))
-    (count_shifted more unsettled token)
-    ∙ ending_shifted basis tokens (rest ++ dues) (at + 1) more count)
 
 -- the end of a report looks at what was counted alone
 end_counts : (one other : ReportProgressView) (lines : List NumberedLine)
@@ -104,17 +58,18 @@ ask_outcome : (report : ReportInput) (standing : ReportProgressView) (later : Li
     ≡ outcome_of_ending report
     (standing.rows + length report.sheet.lines * length report.sheet.clubs
     + rows_by report later)
-    (ending_of_asks (tokens_of report.lines) later next (standing.unsettled + unsettled)))
+    (ending_of_asks reports (tokens_of report.lines) later next (standing.unsettled + unsettled)))
     → (rows : ℕ) → standing.rows + length report.sheet.lines * length report.sheet.clubs
     + rows_by report later ≡ rows
     → outcome_by report standing part onward
     ≡ outcome_of_ending report rows
     (go_on_by (with_more standing.unsettled part)
-    (λ to found. ending_of_asks (tokens_of report.lines) later to found))
+    (λ to found. ending_of_asks reports (tokens_of report.lines) later to found))
 ask_outcome report standing later onward (whole_at next unsettled) same rows is =
     same next unsettled
     ∙ ap (λ it. outcome_of_ending report it
-    (ending_of_asks (tokens_of report.lines) later next (standing.unsettled + unsettled))) is
+    (ending_of_asks reports (tokens_of report.lines) later next
+    (standing.unsettled + unsettled))) is
 ask_outcome report standing later onward (bad_line at) same rows is = refl
 ask_outcome report standing later onward (no_proof at) same rows is = refl
 ask_outcome report standing later onward short same rows is = refl
@@ -125,7 +80,7 @@ pub feed_outcome : (report : ReportInput) (entries : List Entry) (standing : Rep
     ≡ outcome_of_ending report
     (standing.rows + rows_by report
     (bases_from report.sheet standing.season standing.epoch entries))
-    (ending_of_asks (tokens_of report.lines)
+    (ending_of_asks reports (tokens_of report.lines)
     (bases_from report.sheet standing.season standing.epoch entries) standing.at
     standing.unsettled)
 feed_outcome report [] standing =
@@ -146,8 +101,9 @@ feed_outcome report (Ask ∷ entries) standing =
     (progress_after report.sheet standing next unsettled))
     rows (omega arith)
     ∙ ap (λ it. outcome_of_ending report rows (go_on_by it
-    (λ to found. ending_of_asks tokens later to found)))
-    (sym (ending_shifted basis (drop standing.at tokens) (part_of_ask report.sheet) standing.at
+    (λ to found. ending_of_asks reports tokens later to found)))
+    (sym (ending_shifted report_grammar basis (drop standing.at tokens)
+    (part_of_ask report.sheet) standing.at
     standing.unsettled 0)
     ∙ ap (ending_from (judged_by tokens basis) standing.at (part_of_ask report.sheet))
     (omega arith))
@@ -171,7 +127,7 @@ report_comes sheet entries asks told same =
     ∙ ap (λ n. length asks.epochs.items * n) (rows_count sheet each refl) in
     feed_outcome report entries (first_progress sheet)
     ∙ ap (λ bases. outcome_of_ending report (0 + rows_by report bases)
-    (ending_of_asks (tokens_of told.lines) bases 0 0)) (sym same)
+    (ending_of_asks reports (tokens_of told.lines) bases 0 0)) (sym same)
     ∙ ap (λ n. outcome_of_ending report n (ending_in sheet asks told.lines)) (omega (arith, rows))
 
 -- a stop is the outcome

@@ -1,8 +1,6 @@
 -- What a call that goes over one item says of it alone.
-use Rattle.std.proofs.Common.{◌≡◌, ◌<◌, ℕ, ◌+◌, [], ◌∷◌, Option, Some, None, Result, Ok, Err, List}
-use Rattle.std.proofs.Common.{map, IfOk, refl, sym, ap, subst, ◌∙◌, get_or, length}
-use Rattle.std.specs.Prelude.{MatchResult, Contains}
-use Rattle.std.specs.List.{AllZip}
+use Rattle.std.proofs.Common.{◌≡◌, ◌<◌, ◌+◌, [], ◌∷◌, Some, None, Result, Ok, Err}
+use Rattle.std.proofs.Common.{sym, ap, ◌∙◌, get_or, length}
 use Rattle.cert_check.specs.declared.item.PartRead.{PartRead}
 use Rattle.cert_check.specs.declared.stop.CheckStopAt.{CheckStopAt}
 use Rattle.cert_check.specs.declared.stop.CheckStopAt.TheVariants as halt
@@ -12,7 +10,7 @@ use Rattle.cert_check.specs.inside.Calls.{ReportView, ending_from, GoesOverItem}
 use Rattle.cert_check.proofs.ReachLemmas.{ends_whole}
 use Rattle.par_check.specs.declared.asks.Item.{Item}
 use Rattle.par_check.specs.declared.item_due.ItemRow.{ItemRow}
-use Rattle.par_check.specs.FirstStops.{unproved_in}
+use Rattle.cert_check.specs.inside.Pieces.{unproved_in}
 use Rattle.par_check.specs.Cuts.{unproved_of}
 
 -- what an item that was gone over says

@@ -1,25 +1,24 @@
 -- The walk over an item by the grammar alone, line by line.
-use Rattle.std.proofs.Common.{◌≡◌, ℕ, ◌+◌, Bool, true, false, List, [], ◌∷◌, ◌++◌, map}
+use Rattle.std.proofs.Common.{◌≡◌, ℕ, ◌+◌, Bool, true, false, List, [], ◌∷◌, ◌++◌}
 use Rattle.std.proofs.Common.{drop, length, replicate, Option, Some, None, if◌then◌else◌, refl, sym}
 use Rattle.std.proofs.Common.{ap, ◌∙◌, arith, length-append}
 use Rattle.std.proofs.lemmas.Bool.{false≢true}
-use Rattle.std.proofs.lemmas.List.{map-append, length-replicate}
+use Rattle.std.proofs.lemmas.List.{length-replicate}
 use Rattle.league_core.specs.declared.question.Question.{Question}
 use Rattle.league_core.specs.declared.season.Score.{Score}
 use Rattle.line_tokens.specs.declared.token.Token.{Token}
 use Rattle.cert_check.specs.ExpectedItems.{Basis, verdict_row}
 use Rattle.cert_check.specs.ExpectedItems.{score, after}
-use Rattle.cert_check.specs.Machine.{whole_at, bad_line, short, with_unsettled}
+use Rattle.cert_check.specs.LineGrammars.{whole_at}
 use Rattle.cert_check.specs.inside.Calls.{ReportView}
 use Rattle.cert_check.specs.inside.Calls.{after_score_if}
 use Rattle.par_check.specs.declared.item_due.ItemRow.{ItemRow}
 use Rattle.par_check.specs.declared.item_due.ItemDue.{ItemDue}
-use Rattle.par_check.specs.declared.item_due.DueAfter.{DueAfter}
 use Rattle.par_check.specs.FirstStops.{grammar_from}
 use Rattle.par_check.specs.Shapes.{DueShape, some_score, shapes_in}
-use Rattle.par_check.specs.Shapes.{shape_of_scores, shapes_after, by_shapes}
+use Rattle.par_check.specs.Shapes.{shape_of_scores, shapes_after}
 use Rattle.par_check.specs.Shapes.{shapes_ending}
-use Rattle.par_check.specs.Outlines.{shape_in, left_by, shapes_left, ending_by_shapes}
+use Rattle.par_check.specs.Outlines.{ending_by_shapes}
 use Rattle.par_check.proofs.ShapeLemmas.{same_shapes, scores_shape, shapes_suffice}
 
 -- the branch of a test that is true
@@ -83,7 +82,8 @@ outline_begins judged row from left first before =
 pub outline_whole : (judged : ReportView) (row : ItemRow) (at : ℕ) (left : List ItemDue) (here : ℕ)
     → left ≡ [] → ending_by_shapes judged row at left here ≡ whole_at at here
 outline_whole judged row at left here none =
-    ap (λ it. ending_by_shapes judged row at it here) none ∙ of_lines (drop at judged.tokens)
+    ap (λ it. ending_by_shapes judged row at it here) none
+    ∙ of_lines (drop at judged.tokens)
   where
     of_lines : (tokens : List Token) → shapes_ending judged.basis tokens [] at here
         ≡ whole_at at here

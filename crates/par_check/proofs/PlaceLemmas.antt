@@ -3,7 +3,7 @@ use Rattle.std.proofs.Common.{◌≡◌, ◌<◌, ◌≤◌, ℕ, ◌+◌, List,
 use Rattle.std.proofs.Common.{refl, sym, ap, subst, ◌∙◌, arith, append-nil, Bool, true, false}
 use Rattle.std.proofs.Common.{◌++◌, take, zero, suc}
 use Rattle.std.specs.List.{AllZip}
-use Rattle.std.specs.Prelude.{All, get_or, nat_lt, if◌then◌else◌, IfOk}
+use Rattle.std.specs.Prelude.{All, get_or, nat_lt, if◌then◌else◌}
 use Rattle.std.proofs.Math.ListN.{drop_of_length-le}
 use Rattle.std.proofs.lemmas.Bool.{ltb-true, ltb-false}
 use Rattle.std.proofs.lemmas.List.{drop_more, length-map}
@@ -15,7 +15,8 @@ use Rattle.cert_check.specs.declared.stop.CheckStopAt.TheVariants as halt
 use Rattle.cert_check.specs.LineLists.{NumberedLine, tokens_of}
 use Rattle.line_tokens.specs.Tokens.{token_of}
 use Rattle.cert_check.specs.ExpectedItems.{Basis, Expected, ask_row, verdict_row}
-use Rattle.cert_check.specs.Machine.{Ending, whole_at, bad_line, no_proof, short, part_of_ask}
+use Rattle.cert_check.specs.LineGrammars.{Ending, whole_at, bad_line, no_proof, short}
+use Rattle.cert_check.specs.Machine.{part_of_ask, report_grammar}
 use Rattle.cert_check.specs.Machine.{basis_of, rows_of}
 use Rattle.league_core.specs.game.Seasons.{season_after}
 use Rattle.cert_check.specs.inside.Calls.{ReportView, ending_from, Goes, GoesOverAll, AllHalt}
@@ -24,16 +25,16 @@ use Rattle.cert_check.proofs.ReachLemmas.{ends_whole, reach_on, reach_halt, all_
 use Rattle.par_check.specs.declared.asks.Asks.{Asks}
 use Rattle.par_check.specs.declared.item_due.ItemRow.{ItemRow}
 use Rattle.par_check.specs.declared.places.Place.{Place}
-use Rattle.par_check.specs.declared.places.RunJudged.{RunJudged}
 use Rattle.par_check.specs.declared.places.RunRead.{RunRead}
 use Rattle.par_check.specs.declared.places.Whole.{Whole}
-use Rattle.par_check.specs.FirstStops.{judged_by, go_on_by, ending_of_asks}
+use Rattle.cert_check.specs.inside.Pieces.{go_on_by, ending_of_asks}
+use Rattle.par_check.specs.FirstStops.{judged_by, reports}
 use Rattle.par_check.specs.Cuts.{bases_in}
 use Rattle.par_check.specs.Checked.{StopsSo, StopsWithin, ending_in}
-use Rattle.par_check.specs.Places.{rest_of, rest_at, IsPlace, ReadsOn, StopsFrom, place_before}
+use Rattle.par_check.specs.Places.{rest_of, rest_at, IsPlace, ReadsOn, place_before}
 use Rattle.par_check.specs.Places.{GoesOverRows, ReadsToEnd, IsBehindAsk, ReadsWhole}
 use Rattle.par_check.proofs.AskLemmas.{ask_first, report_of_ask}
-use Rattle.par_check.proofs.CutLemmas.{takes_lines}
+use Rattle.cert_check.proofs.CountLemmas.{takes_lines}
 
 -- ---- rows of an ask
 
@@ -78,7 +79,8 @@ row_more judged from row before about result is due goes =
 pub goes_far : (judged : ReportView) (wanted : List Expected) (at : ℕ) (found : PartRead)
     → GoesOverAll judged at wanted (Ok found) → at + found.unsettled ≤ found.next
 goes_far judged wanted at found goes =
-    let taken = takes_lines judged.basis (drop at judged.tokens) wanted at 0 found.next
+    let taken = takes_lines report_grammar judged.basis (drop at judged.tokens) wanted at 0
+    found.next
     found.unsettled (all_shown_ends judged at wanted found goes) in
     omega (arith, taken.1)
 
@@ -126,7 +128,7 @@ rows_none judged row from = λ dues before.
 
 -- what is left before the first row of the first ask that is left
 rest_begins : (tokens : List Token) (at unsettled : ℕ) (bases : List Basis)
-    → rest_of tokens 0 at unsettled bases ≡ ending_of_asks tokens bases at unsettled
+    → rest_of tokens 0 at unsettled bases ≡ ending_of_asks reports tokens bases at unsettled
 rest_begins tokens at unsettled [] = refl
 rest_begins tokens at unsettled (basis ∷ later) = refl
 
@@ -140,7 +142,7 @@ rest_moves : (tokens : List Token) (basis : Basis) (later : List Basis)
 rest_moves tokens basis later row until from next count before reaches =
     let judged = judged_by tokens basis in
     let part = part_of_ask basis.sheet in
-    let rest : ℕ → ℕ → Ending = λ to found. ending_of_asks tokens later to found in
+    let rest : ℕ → ℕ → Ending = λ to found. ending_of_asks reports tokens later to found in
     ap (λ it. go_on_by it rest)
     (ap (λ due. ending_from judged from due before) (sym (append-nil (drop row part)))
     ∙ reaches [] before
@@ -152,7 +154,7 @@ rest_over : (tokens : List Token) (basis : Basis) (later : List Basis) (row at u
     → rest_of tokens row at unsettled (basis ∷ later) ≡ rest_of tokens 0 at unsettled later
 rest_over tokens basis later row at unsettled all =
     let judged = judged_by tokens basis in
-    let rest : ℕ → ℕ → Ending = λ to found. ending_of_asks tokens later to found in
+    let rest : ℕ → ℕ → Ending = λ to found. ending_of_asks reports tokens later to found in
     ap (λ due. go_on_by (ending_from judged at due unsettled) rest)
     (drop_of_length-le (part_of_ask basis.sheet) all)
     ∙ ap (λ it. go_on_by it rest) (ends_whole judged at unsettled)
@@ -275,14 +277,14 @@ ask_read sheet asks lines judged at until found within is goes =
 
 -- the reading stops in an ask
 rest_stops : (tokens : List Token) (basis : Basis) (later : List Basis) (row from before : ℕ)
-    (ending : Ending) → (go_on_by ending (λ to found. ending_of_asks tokens later to found))
+    (ending : Ending) → (go_on_by ending (λ to found. ending_of_asks reports tokens later to found))
     ≡ ending
     → ((dues : List Expected) (unsettled : ℕ) → ending_from (judged_by tokens basis) from
     (drop row (part_of_ask basis.sheet) ++ dues) unsettled ≡ ending)
     → rest_of tokens row from before (basis ∷ later) ≡ ending
 rest_stops tokens basis later row from before ending stays is =
     let judged = judged_by tokens basis in
-    let rest : ℕ → ℕ → Ending = λ to found. ending_of_asks tokens later to found in
+    let rest : ℕ → ℕ → Ending = λ to found. ending_of_asks reports tokens later to found in
     ap (λ due. go_on_by (ending_from judged from due before) rest)
     (sym (append-nil (drop row (part_of_ask basis.sheet))))
     ∙ ap (λ it. go_on_by it rest) (is [] before) ∙ stays

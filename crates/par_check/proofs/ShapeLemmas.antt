@@ -19,14 +19,16 @@ use Rattle.cert_check.specs.declared.expected.Tally.{Tally}
 use Rattle.cert_check.specs.ExpectedItems.{Basis, Expected, ask_row, verdict_row, tree_head}
 use Rattle.cert_check.specs.ExpectedItems.{spent_head}
 use Rattle.cert_check.specs.ExpectedItems.{finish_head, both_parts, one_part, nodes, score, lots}
-use Rattle.cert_check.specs.ExpectedItems.{Next, bad, go, after, after_node_if, after_leaf}
+use Rattle.cert_check.specs.LineGrammars.{Next, bad, go, Ending, by_next}
+use Rattle.cert_check.specs.ExpectedItems.{after, after_node_if, after_leaf}
 use Rattle.line_tokens.specs.TreeNodes.{node_in}
 use Rattle.line_tokens.specs.LineRanges.{is_reason_for}
 use Rattle.cert_check.specs.ExpectedItems.{is_ending, scores_due}
 use Rattle.cert_check.specs.ExpectedItems.{after_score}
 use Rattle.cert_check.specs.ExpectedItems.{after_lots}
-use Rattle.cert_check.specs.Machine.{Ending, by_next, with_unsettled}
-use Rattle.par_check.specs.FirstStops.{believed, grammar_of}
+use Rattle.cert_check.specs.Machine.{report_grammar, with_unsettled}
+use Rattle.cert_check.specs.inside.Pieces.{believed}
+use Rattle.par_check.specs.FirstStops.{grammar_of}
 use Rattle.par_check.specs.Shapes.{DueShape, shape_of, shapes_in, shapes_behind_leaf}
 use Rattle.par_check.specs.Shapes.{shapes_behind_node}
 use Rattle.par_check.specs.Shapes.{shape_of_scores, shapes_behind_score, shapes_behind_lots}
@@ -42,7 +44,8 @@ leaf_shapes basis kind question [] tally holds = refl
 leaf_shapes basis kind question (zone ∷ zones) tally holds = refl
 
 -- under a test
-under_test : (test : Bool) (next : Next) (shapes : Option (List DueShape)) → shapes_in next ≡ shapes
+under_test : (test : Bool) (next : Next Expected) (shapes : Option (List DueShape))
+    → shapes_in next ≡ shapes
     → shapes_in (if test then next else bad) ≡ (if test then shapes else None)
 under_test true next shapes same = same
 under_test false next shapes same = refl
@@ -128,7 +131,7 @@ same_shapes basis due (Proof it) = proof_shapes basis due it
 same_shapes basis due Unknown = refl
 
 -- one line of both readings
-step_shapes : (next : Next) (at : ℕ) (grammar : List Expected → Ending)
+step_shapes : (next : Next Expected) (at : ℕ) (grammar : List Expected → Ending)
     (rest : List DueShape → Ending)
     → ((more : List Expected) → grammar more ≡ rest (map shape_of more))
     → by_next (believed next) at grammar ≡ by_shapes (shapes_in next) at rest
@@ -136,6 +139,7 @@ step_shapes bad at grammar rest same = refl
 step_shapes (go holds more) at grammar rest same = same more
 
 pub shapes_suffice : ShapesSuffice
+unfolding report_grammar
 shapes_suffice basis [] [] at unsettled = refl
 shapes_suffice basis [] (due ∷ dues) at unsettled = refl
 shapes_suffice basis (token ∷ tokens) [] at unsettled = refl

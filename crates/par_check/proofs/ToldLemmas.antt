@@ -1,6 +1,5 @@
 -- The items of a cut tell the first stop of a report.
 use Rattle.std.proofs.Common.{◌≡◌, ◌<◌, ℕ, zero, suc, List, [], ◌∷◌, map, drop, length, get_or}
-use Rattle.std.proofs.Common.{Option}
 use Rattle.std.proofs.Common.{true, refl, sym, ap, ◌∙◌, arith}
 use Rattle.std.specs.Prelude.{All}
 use Rattle.league_core.specs.declared.sheet.Sheet.{Sheet}
@@ -10,8 +9,9 @@ use Rattle.cert_check.specs.ExpectedItems.{ask_row, Expected}
 use Rattle.cert_check.specs.Machine.{rows_of}
 use Rattle.par_check.specs.declared.asks.Asks.{Asks}
 use Rattle.par_check.specs.declared.asks.Item.{Item}
-use Rattle.par_check.specs.FirstStops.{first_among, first_stop, is_item_due, items_among}
-use Rattle.par_check.specs.FirstStops.{judged_alone, unproved_in}
+use Rattle.cert_check.specs.inside.Pieces.{first_among, first_stop, items_among, judged_alone}
+use Rattle.cert_check.specs.inside.Pieces.{unproved_in}
+use Rattle.par_check.specs.FirstStops.{reports}
 use Rattle.par_check.specs.Cuts.{season_at, unproved_by, grammar_cut, IsItemIn}
 use Rattle.par_check.specs.Checked.{judged_of, IsToldByItems}
 use Rattle.par_check.proofs.EpochLemmas.{are_items, alike_lines}
@@ -52,7 +52,8 @@ all_say sheet asks lines (item ∷ items) limits rows = λ i.
 pub told_by_items : (sheet : Sheet) (asks : Asks) (lines : List NumberedLine) (items : List Item)
     (count : ℕ) → IsWithinLimits sheet → All (IsItemIn sheet count (length lines)) items
     → map (unproved_by sheet asks (tokens_of lines)) items
-    ≡ map (judged_alone (tokens_of lines)) (items_among (grammar_cut sheet asks lines).pieces)
+    ≡ map (judged_alone reports (tokens_of lines))
+    (items_among reports (grammar_cut sheet asks lines).pieces)
     → IsToldByItems sheet asks lines items
 told_by_items sheet asks lines items count limits are judged =
     ap (λ it. first_stop (first_among it) (grammar_cut sheet asks lines).ending)

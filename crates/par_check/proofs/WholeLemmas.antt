@@ -4,7 +4,7 @@ use Rattle.league_core.specs.declared.sheet.Sheet.{Sheet}
 use Rattle.cert_check.specs.declared.stop.Accepted.{Accepted}
 use Rattle.cert_check.specs.declared.stop.CheckStop.{CheckStop}
 use Rattle.cert_check.specs.LineLists.{NumberedLine, tokens_of}
-use Rattle.cert_check.specs.Machine.{Ending}
+use Rattle.cert_check.specs.LineGrammars.{Ending}
 use Rattle.par_check.specs.declared.asks.Asks.{Asks}
 use Rattle.par_check.specs.Cuts.{bases_in}
 use Rattle.par_check.specs.Checked.{AnswersSo, ending_in, first_stop_in}

@@ -7,21 +7,23 @@ use Rattle.cert_check.specs.declared.stop.CheckStop.TheVariants as stop
 use Rattle.cert_check.specs.declared.stop.CheckStopAt.{CheckStopAt}
 use Rattle.cert_check.specs.declared.stop.CheckStopAt.TheVariants as halt
 use Rattle.cert_check.specs.LineLists.{NumberedLine, tokens_of, line_number_at}
-use Rattle.cert_check.specs.Machine.{Ending, whole_at, bad_line, no_proof, short, rows_of}
+use Rattle.cert_check.specs.LineGrammars.{Ending, whole_at, bad_line, no_proof, short}
+use Rattle.cert_check.specs.Machine.{rows_of}
 use Rattle.cert_check.specs.Machine.{basis_of}
 use Rattle.par_check.specs.declared.asks.Asks.{Asks}
 use Rattle.par_check.specs.declared.asks.Item.{Item}
-use Rattle.par_check.specs.FirstStops.{ending_of_asks, first_among, first_stop, first_stop_of}
+use Rattle.cert_check.specs.inside.Pieces.{ending_of_asks, first_among, first_stop, first_stop_of}
+use Rattle.par_check.specs.FirstStops.{reports}
 use Rattle.par_check.specs.Cuts.{bases_in, grammar_cut, season_at, unproved_of}
 
 -- what the answers come to, read one after another
 abbrev pub ending_in : Sheet → Asks → List NumberedLine → Ending
-ending_in sheet asks lines = ending_of_asks (tokens_of lines) (bases_in sheet asks) 0 0
+ending_in sheet asks lines = ending_of_asks reports (tokens_of lines) (bases_in sheet asks) 0 0
 
 -- the first stop among the items, each judged for itself, and the grammar's
 abbrev pub first_stop_in : Sheet → Asks → List NumberedLine → Ending
 first_stop_in sheet asks lines =
-    first_stop_of (tokens_of lines) (grammar_cut sheet asks lines)
+    first_stop_of reports (tokens_of lines) (grammar_cut sheet asks lines)
 
 -- the line of an item that is no proof, where it is judged for itself by the season of its ask
 abbrev pub judged_of : Sheet → Asks → List NumberedLine → Item → Option ℕ

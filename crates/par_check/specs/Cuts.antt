@@ -16,14 +16,16 @@ use Rattle.cert_check.specs.declared.stop.CheckStopAt.{CheckStopAt}
 use Rattle.cert_check.specs.declared.stop.CheckStopAt.TheVariants as halt
 use Rattle.cert_check.specs.LineLists.{NumberedLine, tokens_of, line_number_at}
 use Rattle.cert_check.specs.ExpectedItems.{Basis, ask_row}
-use Rattle.cert_check.specs.Machine.{Ending, whole_at, bad_line, no_proof, short, basis_of, rows_of}
+use Rattle.cert_check.specs.LineGrammars.{Ending, whole_at, bad_line, no_proof, short}
+use Rattle.cert_check.specs.Machine.{basis_of, rows_of}
 use Rattle.cert_check.specs.inside.Calls.{ending_from}
 use Rattle.par_check.specs.declared.asks.Asks.{Asks}
 use Rattle.par_check.specs.declared.asks.Item.{Item}
 use Rattle.par_check.specs.declared.asks.Cut.{Cut}
-use Rattle.par_check.specs.FirstStops.{GrammarCut, ReportPiece, WantedPiece, cut_of, cut_of_asks}
-use Rattle.par_check.specs.FirstStops.{items_among, judged_alone, judged_by}
-use Rattle.par_check.specs.FirstStops.{unproved_in}
+use Rattle.cert_check.specs.inside.Pieces.{cut_of, cut_of_asks, items_among, judged_alone}
+use Rattle.cert_check.specs.inside.Pieces.{unproved_in}
+use Rattle.par_check.specs.FirstStops.{GrammarCut, ReportPiece, WantedPiece, reports}
+use Rattle.par_check.specs.FirstStops.{judged_by}
 
 -- ---- asks
 
@@ -75,7 +77,7 @@ item_of piece = record {
 
 -- the items of pieces
 abbrev pub items_of : List ReportPiece → List Item
-items_of pieces = map item_of (items_among pieces)
+items_of pieces = map item_of (items_among reports pieces)
 
 -- the stop that an ending is, with the line's number
 abbrev pub stop_of : List NumberedLine → Ending → Option CheckStop
@@ -86,7 +88,7 @@ stop_of lines short = Some stop.Short
 
 -- what the grammar alone cuts a report into
 abbrev pub grammar_cut : Sheet → Asks → List NumberedLine → GrammarCut
-grammar_cut sheet asks lines = cut_of_asks (tokens_of lines) (bases_in sheet asks)
+grammar_cut sheet asks lines = cut_of_asks reports (tokens_of lines) (bases_in sheet asks)
 
 -- the items of a report by the grammar alone, and its first stop
 pub record IsReportCut (sheet : Sheet) (asks : Asks) (lines : List NumberedLine)
@@ -146,14 +148,15 @@ pub record IsCutSoFar (tokens : List Token) (judge : Item → Option ℕ) (whole
     (items : List Item) (left : List WantedPiece) (at unsettled : ℕ) : Type 0 where
   pub pieces : List ReportPiece
   pub known : items ≡ items_of pieces
-  pub judged : map judge items ≡ map (judged_alone tokens) (items_among pieces)
-  pub rest : whole ≡ with_pieces pieces (cut_of tokens left at unsettled)
+  pub judged : map judge items ≡ map (judged_alone reports tokens) (items_among reports pieces)
+  pub rest : whole ≡ with_pieces pieces (cut_of reports tokens left at unsettled)
 
 -- a whole cut of which all items are known, and what the grammar comes to
 pub record IsCutAt (tokens : List Token) (judge : Item → Option ℕ) (whole : GrammarCut)
     (items : List Item) (ending : Ending) : Type 0 where
   pub known : items ≡ items_of whole.pieces
-  pub judged : map judge items ≡ map (judged_alone tokens) (items_among whole.pieces)
+  pub judged : map judge items
+      ≡ map (judged_alone reports tokens) (items_among reports whole.pieces)
   pub comes : whole.ending ≡ ending
 
 -- a call that cuts so much of an ask's answer from a position on, and adds its items
@@ -210,7 +213,7 @@ pub record IsCutRead (sheet : Sheet) (asks : Asks) (lines : List NumberedLine) (
     (ending : Result PartRead CheckStopAt) : Type 0 where
   pub known : items ≡ items_of (grammar_cut sheet asks lines).pieces
   pub judged : map (unproved_by sheet asks (tokens_of lines)) items
-      ≡ map (judged_alone (tokens_of lines))
-      (items_among (grammar_cut sheet asks lines).pieces)
+      ≡ map (judged_alone reports (tokens_of lines))
+      (items_among reports (grammar_cut sheet asks lines).pieces)
   pub comes : EndsSo (length lines) (grammar_cut sheet asks lines).ending ending
   pub within : All (IsItemIn sheet (length asks.epochs.items) (length lines)) items

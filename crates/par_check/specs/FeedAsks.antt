@@ -8,7 +8,8 @@ use Rattle.result_log.specs.declared.entry.Entry.{Entry}
 use Rattle.result_log.specs.declared.entry.Entry.TheVariants.{Change, Ask, Proofs, End}
 use Rattle.cert_check.specs.LineLists.{line_number_at}
 use Rattle.cert_check.specs.ExpectedItems.{Basis}
-use Rattle.cert_check.specs.Machine.{Ending, whole_at, bad_line, no_proof, short, basis_of}
+use Rattle.cert_check.specs.LineGrammars.{Ending, whole_at, bad_line, no_proof, short}
+use Rattle.cert_check.specs.Machine.{basis_of}
 use Rattle.cert_check.specs.declared.outcome.CheckOutcome.{CheckOutcome}
 use Rattle.cert_check.specs.declared.outcome.CheckOutcome.TheVariants.{Refused}
 use Rattle.cert_check.specs.declared.outcome.ReportFault.TheVariants.{BadLine, NoProof, Short}

@@ -9,7 +9,7 @@ use Rattle.cert_check.specs.declared.stop.CheckStopAt.{CheckStopAt}
 use Rattle.cert_check.specs.declared.stop.CheckStopAt.TheVariants as halt
 use Rattle.cert_check.specs.ExpectedItems.{Basis, verdict_row, tree_head, spent_head, finish_head}
 use Rattle.cert_check.specs.ExpectedItems.{both_parts, one_part}
-use Rattle.cert_check.specs.Machine.{Ending, whole_at, bad_line, short}
+use Rattle.cert_check.specs.LineGrammars.{Ending, whole_at, bad_line, short}
 use Rattle.cert_check.specs.inside.Calls.{ReportView}
 use Rattle.par_check.specs.declared.item_due.ItemRow.{ItemRow}
 use Rattle.par_check.specs.declared.item_due.ItemDue.{ItemDue}

@@ -5,16 +5,17 @@ use Rattle.league_core.specs.declared.sheet.Sheet.{Sheet}
 use Rattle.line_tokens.specs.declared.token.Token.{Token}
 use Rattle.cert_check.specs.declared.item.PartRead.{PartRead}
 use Rattle.cert_check.specs.declared.stop.CheckStopAt.{CheckStopAt}
-use Rattle.cert_check.specs.declared.stop.CheckStopAt.TheVariants as halt
 use Rattle.cert_check.specs.LineLists.{NumberedLine, tokens_of}
 use Rattle.cert_check.specs.ExpectedItems.{Basis}
-use Rattle.cert_check.specs.Machine.{Ending, whole_at, bad_line, no_proof, short, part_of_ask}
+use Rattle.cert_check.specs.LineGrammars.{Ending, whole_at}
+use Rattle.cert_check.specs.Machine.{part_of_ask}
 use Rattle.cert_check.specs.inside.Calls.{ReportView, ending_from, AllHalt, Reaches}
 use Rattle.par_check.specs.declared.asks.Asks.{Asks}
 use Rattle.par_check.specs.declared.places.Place.{Place}
 use Rattle.par_check.specs.declared.places.RunRead.{RunRead}
 use Rattle.par_check.specs.declared.places.Whole.{Whole}
-use Rattle.par_check.specs.FirstStops.{judged_by, go_on_by, ending_of_asks}
+use Rattle.cert_check.specs.inside.Pieces.{go_on_by, ending_of_asks}
+use Rattle.par_check.specs.FirstStops.{judged_by, reports}
 use Rattle.par_check.specs.Cuts.{AreAsks, bases_in}
 use Rattle.par_check.specs.Checked.{StopsSo}
 
@@ -25,7 +26,7 @@ rest_of tokens row at unsettled [] = whole_at at unsettled
 rest_of tokens row at unsettled (basis ∷ later) =
     go_on_by
     (ending_from (judged_by tokens basis) at (drop row (part_of_ask basis.sheet)) unsettled)
-    (λ to found. ending_of_asks tokens later to found)
+    (λ to found. ending_of_asks reports tokens later to found)
 
 -- the same at a place of a report
 abbrev pub rest_at : Sheet → Asks → List NumberedLine → Place → ℕ → Ending

@@ -15,11 +15,12 @@ use Rattle.line_tokens.specs.declared.token.Token.TheVariants.{Blank, Row, Proof
 use Rattle.line_tokens.specs.declared.tree_line.TreeKind.{TreeKind}
 use Rattle.cert_check.specs.ExpectedItems.{Basis, Expected, ask_row, verdict_row, tree_head}
 use Rattle.cert_check.specs.ExpectedItems.{spent_head, finish_head, both_parts, one_part, nodes}
-use Rattle.cert_check.specs.ExpectedItems.{score, lots, Next, bad, go, after}
+use Rattle.cert_check.specs.LineGrammars.{Next, bad, go, Ending, whole_at, bad_line, short}
+use Rattle.cert_check.specs.ExpectedItems.{score, lots, after}
 use Rattle.line_tokens.specs.TreeNodes.{node_in}
 use Rattle.line_tokens.specs.LineRanges.{is_reason_for}
 use Rattle.cert_check.specs.ExpectedItems.{is_ending}
-use Rattle.cert_check.specs.Machine.{Ending, whole_at, bad_line, short, with_unsettled}
+use Rattle.cert_check.specs.Machine.{with_unsettled}
 use Rattle.par_check.specs.FirstStops.{grammar_of}
 
 -- what is due: a row or a head as it is; the nodes of a tree with so many zones behind the one that
@@ -44,7 +45,7 @@ shape_of (score question ended left) = some_score question (length ended) left
 shape_of (lots question ended) = some_lots question
 
 -- the shapes of what a line leaves due, where it may come
-abbrev pub shapes_in : Next → Option (List DueShape)
+abbrev pub shapes_in : Next Expected → Option (List DueShape)
 shapes_in bad = None
 shapes_in (go holds dues) = Some (map shape_of dues)
 

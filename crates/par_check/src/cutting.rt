@@ -3,7 +3,8 @@
 ghost use Rattle.std.specs.Prelude.{◌≡◌, ◌<◌, ◌≤◌, ◌^◌, [], ◌∷◌, ◌++◌, All, Err, IfOk, IsTrue};
 ghost use Rattle.std.specs.Prelude.{OnErr, OnOk, length};
 ghost use Rattle.cert_check.specs.Machine.{rows_of};
-ghost use Rattle.par_check.specs.FirstStops.{rows_wanted, wanted_by_ask};
+ghost use Rattle.cert_check.specs.inside.Pieces.{rows_wanted, wanted_by_ask};
+ghost use Rattle.par_check.specs.FirstStops.{reports};
 ghost use Rattle.par_check.specs.Cuts.{AreAsks, CutsOver, IsReportCut, IsCutRead, KeepsItems};
 ghost use Rattle.par_check.specs.Cuts.{IsItemIn};
 ghost use Rattle.par_check.specs.Cuts.{end_outlined, is_of_lines, row_wanted};
@@ -109,7 +110,7 @@ fn cut_ask(
     requires room { from ≤ length report.now.tokens }
     requires few { length report.now.tokens < 2 ^ 32 }
     ensures cuts { CutsOver report.now.tokens report.now.basis ask
-        (wanted_by_ask report.now.basis ask) from items.old.items items.new.items result }
+        (wanted_by_ask reports report.now.basis ask) from items.old.items items.new.items result }
     ensures items { KeepsItems report.now.basis.sheet (length report.now.tokens) ask
         items.old.items items.new.items }
 {

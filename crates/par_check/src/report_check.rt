@@ -2,7 +2,7 @@
 
 ghost use Rattle.std.specs.Prelude.{◌≡◌, ◌<◌, ◌≤◌, ◌^◌, ℕ, Ok, Err, length};
 ghost use Rattle.league_core.specs.game.Sheets.{IsWithinLimits};
-ghost use Rattle.cert_check.specs.Machine.{Ending, whole_at};
+ghost use Rattle.cert_check.specs.LineGrammars.{Ending, whole_at};
 ghost use Rattle.par_check.specs.Cuts.{AreAsks};
 ghost use Rattle.par_check.specs.Checked.{AnswersSo, StopsSo, StopsWithin, ending_in};
 ghost use Rattle.par_check.specs.Checked.{first_stop_in, rows_in};

@@ -19,7 +19,8 @@ use Rattle.result_log.specs.Feeds.{season_with}
 use Rattle.result_log.specs.inside.FeedParts.{events_after}
 use Rattle.result_log.proofs.FeedLemmas.{season_after-entry}
 use Rattle.line_tokens.specs.declared.token.Token.{Token}
-use Rattle.cert_check.specs.Machine.{basis_of, whole_at}
+use Rattle.cert_check.specs.LineGrammars.{whole_at}
+use Rattle.cert_check.specs.Machine.{basis_of}
 use Rattle.cert_check.specs.inside.Answers.{answer_tokens}
 use Rattle.cert_check.specs.inside.WrittenReports.{written}
 use Rattle.cert_check.proofs.AnswerLemmas.{answer_accepted}

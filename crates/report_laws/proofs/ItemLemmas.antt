@@ -14,7 +14,8 @@ use Rattle.cert_text.specs.declared.proof_line.ProofLine.{ProofLine}
 use Rattle.cert_text.specs.TreeLines.{marked_lines}
 use Rattle.line_tokens.specs.declared.token.Token.{Token}
 use Rattle.cert_check.specs.ExpectedItems.{Basis, Expected, verdict_row}
-use Rattle.cert_check.specs.Machine.{ending_of, whole_at, part_of_ask, rows_on_line}
+use Rattle.cert_check.specs.LineGrammars.{whole_at}
+use Rattle.cert_check.specs.Machine.{ending_of, part_of_ask, rows_on_line}
 use Rattle.cert_check.specs.Machine.{basis_of}
 use Rattle.cert_check.specs.inside.Calls.{unsettled_in}
 use Rattle.cert_check.specs.inside.Answers.{ShowsWord, AreShown, ShowsSpentHeaded, ShowsExampleOf}

@@ -11,7 +11,8 @@ use Rattle.result_log.specs.declared.entry.Entry.TheVariants.{Change, Ask, Proof
 use Rattle.line_tokens.specs.declared.token.Token.{Token}
 use Rattle.line_tokens.specs.Tokens.{counted_lines}
 use Rattle.cert_check.specs.LineLists.{tokens_of}
-use Rattle.cert_check.specs.Machine.{Ending, ending_of, part_of_ask, whole_at}
+use Rattle.cert_check.specs.LineGrammars.{Ending, whole_at}
+use Rattle.cert_check.specs.Machine.{ending_of, part_of_ask}
 use Rattle.cert_check.specs.Machine.{basis_of}
 use Rattle.cert_check.specs.declared.outcome.CheckOutcome.TheVariants.{Accepted}
 use Rattle.cert_check.specs.Outcomes.{ReportInput, ReportProgressView, first_progress, outcome_by}

@@ -11,7 +11,7 @@
 //! `plain_boxes` tries every score of every fixture; `boxes` compares it with boxes along drawn
 //! paths of literals (`drawn_boxes`), with boxes made anew, and with the cuts. `cuts` has leagues
 //! that are added up by hand, `nets` networks, `ties` zones worked by hand for the sure order and
-//! the reasons.
+//! the reasons, `keys` keys and both their ends in zones.
 #![tactic(auto)]
 
 #[cfg(test)]
@@ -32,6 +32,8 @@ mod groups;
 mod hand;
 #[cfg(test)]
 mod help;
+#[cfg(test)]
+mod keys;
 #[cfg(test)]
 mod lots;
 #[cfg(test)]

@@ -7,6 +7,7 @@ use Rattle.std.specs.Bool.{MatchBool}
 use Rattle.std.specs.List.{All, AllWithin, HoldsAt, list_all}
 use Rattle.std.proofs.Math.Bool.{and-true, or-false}
 use Rattle.std.proofs.lemmas.Bool.{false≢true, cases_eq, eq-eqb, ne_eqb, and_from, or_cases}
+use Rattle.std.proofs.lemmas.Bool.{and_parts}
 use Rattle.std.proofs.lemmas.Bool.Decides.{same_from_decides}
 use Rattle.std.proofs.lemmas.List.{length-set, get_or-set_same, get_or-set_other}
 use Rattle.std.proofs.lemmas.List.{get_or_append_left, get_or_push, length_push}
@@ -287,6 +288,69 @@ unfolding has_finish
 some_in_each sheet season zone cells are finish =
     cells_of_all (λ cell. ¬ IsEmptyCell cell) has_option cell_of_option cells
     (options_in sheet season zone) are finish
+
+-- cells of which one is put in the place of another pass if those cells and it do
+all_set : (P : Cell → Type 0) (cells : List Cell) (f : ℕ) (cell : Cell) → f < length cells
+    → All P cells → P cell → All P (set cells f cell)
+all_set P cells f cell in_range all is k d within = at (cases_eq k f)
+  where
+    at : (k ≡ f) ⊎ (k ≢ f) → P (get_or (set cells f cell) k d)
+    at (inl same) =
+        subst P (sym (ap (λ n. get_or (set cells f cell) n d) same
+        ∙ get_or-set_same cells f cell d in_range)) is
+    at (inr other) =
+        subst P (sym (get_or-set_other cells f k cell d other))
+        (all k d (omega (arith, within, length-set cells f cell)))
+
+-- and the other way, if the one that went passes when it does
+all_unset : (P : Cell → Type 0) (cells : List Cell) (f : ℕ) (cell : Cell) → f < length cells
+    → ((d : Cell) → P cell → P (get_or cells f d)) → All P (set cells f cell) → All P cells
+all_unset P cells f cell in_range back all k d within = at (cases_eq k f)
+  where
+    there : P (get_or (set cells f cell) k d)
+    there = all k d (omega (arith, within, length-set cells f cell))
+
+    at : (k ≡ f) ⊎ (k ≢ f) → P (get_or cells k d)
+    at (inl same) =
+        subst P (ap (λ n. get_or cells n d) (sym same)) (back d (subst P
+        (ap (λ n. get_or (set cells f cell) n d) same ∙ get_or-set_same cells f cell d in_range)
+        there))
+    at (inr other) = subst P (get_or-set_other cells f k cell d other) there
+
+-- a zone one of whose cells is cut has a finish exactly when it had one before and the cell has a
+-- score
+pub finish_cut : (sheet : Sheet) (season : Results) (zone : List Literal) (literal : Literal)
+    (cells : List Cell) (f : ℕ) (cell : Cell) (left : Bool) → f < length cells
+    → AreCellsOf cells (options_in sheet season zone)
+    → AreCellsOf (set cells f cell) (options_in sheet season (zone ++ literal ∷ []))
+    → ((d : Cell) → IsEmptyCell (get_or cells f d) → IsEmptyCell cell)
+    → (left ≡ true → ¬ IsEmptyCell cell) → (¬ IsEmptyCell cell → left ≡ true)
+    → (has_finish sheet season zone && left) ≡ has_finish sheet season (zone ++ literal ∷ [])
+finish_cut sheet season zone literal cells f cell left in_range are cut less some none =
+    let Some_in : Cell → Type 0 = λ it. ¬ IsEmptyCell it in
+    has_finish-is sheet season (zone ++ literal ∷ []) (set cells f cell)
+    (has_finish sheet season zone && left) cut
+    (λ both.
+    let parts = and_parts (has_finish sheet season zone) left both in
+    all_set Some_in cells f cell in_range (some_in_each sheet season zone cells are parts.0)
+    (some parts.1))
+    (λ all.
+    and_from (has_finish sheet season zone) left
+    (sym (has_finish-is sheet season zone cells true are
+    (λ _. all_unset Some_in cells f cell in_range (λ d is empty. is (less d empty)) all)
+    (λ _. refl)))
+    (none (subst Some_in (get_or-set_same cells f cell cell in_range)
+    (all f cell (omega (arith, in_range, length-set cells f cell))))))
+
+-- one whose cells stay has one exactly when it had one
+pub finish_same : (sheet : Sheet) (season : Results) (zone : List Literal) (literal : Literal)
+    (cells : List Cell) → AreCellsOf cells (options_in sheet season zone)
+    → AreCellsOf cells (options_in sheet season (zone ++ literal ∷ []))
+    → has_finish sheet season zone ≡ has_finish sheet season (zone ++ literal ∷ [])
+finish_same sheet season zone literal cells are same =
+    has_finish-is sheet season (zone ++ literal ∷ []) cells (has_finish sheet season zone) same
+    (some_in_each sheet season zone cells are)
+    (λ all. sym (has_finish-is sheet season zone cells true are (λ _. all) (λ _. refl)))
 
 -- as many cells as the season has fixtures
 pub cells_of_season : (sheet : Sheet) (season : Results) (zone : List Literal) (cells : List Cell)

@@ -8,8 +8,8 @@ ghost use Rattle.std.specs.List.{All};
 ghost use Rattle.league_core.specs.game.Limits.{most_fixtures, most_points, set_width};
 ghost use Rattle.league_core.specs.game.ClubSets.{clubs_in};
 ghost use Rattle.league_core.specs.search.PointRanges.{total_of};
-ghost use Rattle.score_box.specs.inside.Cells.{IsEmptyCell};
-ghost use Rattle.score_box.specs.inside.Points.{IsPointsOf, IsRangeOver, most_taken_off};
+ghost use Rattle.score_box.specs.inside.Boxes.{HasOptions};
+ghost use Rattle.score_box.specs.inside.Points.{IsRangeOver, most_taken_off};
 
 mod left;
 mod outcomes;
@@ -66,7 +66,7 @@ pub fn points_left(
     requires in_range { All (λ number. number < length fixtures.now) numbers.now }
     requires few { length numbers.now ≤ most_fixtures }
     requires apart { All (λ match. match.home ≢ match.away) fixtures.now }
-    requires some { All (λ cell. ¬ IsEmptyCell cell) cells.now }
+    requires some { HasOptions cells.now }
     ensures range { IsRangeOver fixtures.now cells.now numbers.now (clubs_in set) result }
     ensures within { (pos 0 ≤ℤ result.least) × (result.least ≤ℤ result.most)
         × (result.most ≤ℤ most_points) }
@@ -76,7 +76,8 @@ pub fn points_left(
         let number = numbers[i] as usize;
         let home = set.has(fixtures[number].home);
         let away = set.has(fixtures[number].away);
-        total = total.with(MatchPoints::of(&cells[number], home, away));
+        let left = cells[number].left();
+        total = total.with(left.points(home, away));
     }
     total
 }

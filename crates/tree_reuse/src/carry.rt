@@ -3,7 +3,6 @@
 ghost use Rattle.std.specs.Prelude.{◌≡◌, ◌<◌, ◌≤◌, IsTrue, [], ◌∷◌, ◌++◌, length, reverse, IfOk};
 ghost use Rattle.std.specs.Prelude.{OnOk, Some};
 ghost use Rattle.league_core.specs.search.Zones.{is_test_of};
-ghost use Rattle.league_core.specs.search.Options.{has_finish};
 ghost use Rattle.league_core.specs.search.Reasons.{has_reason};
 ghost use Rattle.league_core.specs.search.Trees.{preorder};
 ghost use Rattle.tree_reuse.specs.declared.carry.Part.TheVariants.{Kept};
@@ -37,36 +36,21 @@ pub enum Part {
 }
 
 // Which halves a split keeps here.
-fn halves(zone_box: &mut ZoneBox, test: Test) -> Result<Halves, OutOfMemory>
-    requires { IsTrue (is_test_of zone_box.old.sheet test) }
-    ensures { IfOk result (λ halves.
-        (zone_box.new ≡ zone_box.old)
-        × (halves ≡ halves_in zone_box.old.sheet zone_box.old.season zone_box.old.zone test)) }
+fn halves(zone_box: &ZoneBox, test: Test) -> Halves
+    requires { IsTrue (is_test_of zone_box.now.sheet test) }
+    ensures { result ≡ halves_in zone_box.now.sheet zone_box.now.season zone_box.now.zone test }
 {
     if let Test::Rival { .. } = test {
-        return Ok(Halves::Both);
+        return Halves::Both;
     }
-    if !has_half(zone_box, Literal { test, yes: true })? {
-        return Ok(Halves::NoAlone);
+    if !zone_box.has_finish_with(Literal { test, yes: true }) {
+        return Halves::NoAlone;
     }
-    let has_no_half = has_half(zone_box, Literal { test, yes: false })?;
-    Ok(if has_no_half {
+    if zone_box.has_finish_with(Literal { test, yes: false }) {
         Halves::Both
     } else {
         Halves::YesAlone
-    })
-}
-
-fn has_half(zone_box: &mut ZoneBox, literal: Literal) -> Result<bool, OutOfMemory>
-    requires { IsTrue (is_test_of zone_box.old.sheet literal.test) }
-    ensures { IfOk result (λ has. (zone_box.new ≡ zone_box.old)
-        × (has ≡ has_finish zone_box.old.sheet zone_box.old.season
-        (zone_box.old.zone ++ literal ∷ []))) }
-{
-    zone_box.cut(literal)?;
-    let has = zone_box.has_finish();
-    zone_box.uncut();
-    Ok(has)
+    }
 }
 
 // The parts of a split's halves come next, the yes half first.
@@ -111,21 +95,20 @@ fn drop_node(node: TreeNode, parts: &mut Vec<Part>) -> Result<(), OutOfMemory>
 }
 
 fn keep_split(
-    zone_box: &mut ZoneBox,
+    zone_box: &ZoneBox,
     test: Test,
     parts: &mut Vec<Part>,
     found: &mut Vec<TreeNode>,
 ) -> Result<(), OutOfMemory>
-    requires { IsTrue (is_test_of zone_box.old.sheet test) }
-    ensures same { IfOk result (λ _. zone_box.new ≡ zone_box.old) }
+    requires { IsTrue (is_test_of zone_box.now.sheet test) }
     ensures parts { IfOk result (λ _. reverse parts.new.items
-        ≡ halves_kept (halves_in zone_box.old.sheet zone_box.old.season zone_box.old.zone test)
-        (length zone_box.old.zone) test (reverse parts.old.items)) }
+        ≡ halves_kept (halves_in zone_box.now.sheet zone_box.now.season zone_box.now.zone test)
+        (length zone_box.now.zone) test (reverse parts.old.items)) }
     ensures found { IfOk result (λ _. found.new.items ≡ found.old.items
-        ++ split_kept (halves_in zone_box.old.sheet zone_box.old.season zone_box.old.zone test)
+        ++ split_kept (halves_in zone_box.now.sheet zone_box.now.season zone_box.now.zone test)
         test) }
 {
-    let halves = halves(zone_box, test)?;
+    let halves = halves(zone_box, test);
     push_halves(parts, halves, zone_box.zone().len(), test)?;
     if let Halves::Both = halves {
         found.push(TreeNode::Split { test, fresh: false })?;
@@ -158,20 +141,19 @@ fn keep_leaf(
 }
 
 fn keep_node(
-    zone_box: &mut ZoneBox,
+    zone_box: &ZoneBox,
     question: &Question,
     node: TreeNode,
     parts: &mut Vec<Part>,
     found: &mut Vec<TreeNode>,
 ) -> Result<(), OutOfMemory>
-    requires club { question.now.club < length zone_box.old.sheet.clubs }
-    requires node { IsNodeOf zone_box.old.sheet node }
-    ensures same { IfOk result (λ _. zone_box.new ≡ zone_box.old) }
+    requires club { question.now.club < length zone_box.now.sheet.clubs }
+    requires node { IsNodeOf zone_box.now.sheet node }
     ensures parts { IfOk result (λ _. reverse parts.new.items
-        ≡ parts_after zone_box.old.sheet zone_box.old.season zone_box.old.zone node
+        ≡ parts_after zone_box.now.sheet zone_box.now.season zone_box.now.zone node
         (reverse parts.old.items)) }
     ensures found { IfOk result (λ _. found.new.items ≡ found.old.items
-        ++ nodes_kept zone_box.old.sheet zone_box.old.season question.now zone_box.old.zone node) }
+        ++ nodes_kept zone_box.now.sheet zone_box.now.season question.now zone_box.now.zone node) }
 {
     match node {
         TreeNode::Open | TreeNode::Lent(_) => {

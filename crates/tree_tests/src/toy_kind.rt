@@ -8,11 +8,12 @@ use std::alloc::Global;
 use std::fmt::Write;
 use std::test::Fail;
 
-// So many fixtures; whether a zone in which all are decided is an example.
+// So many fixtures; whether a zone in which all are decided is an example; how often it has looked.
 #[derive(Drop)]
 struct Toy {
     fixtures: u16,
     is_won: bool,
+    looks: u32,
 }
 
 // What is known of a fixture in a zone.
@@ -43,6 +44,10 @@ impl Kind for Toy {
 
     type Example = u16;
 
+    ghost Subject = { Unit {0} };
+
+    ghost subject = { λ _. tt };
+
     ghost fits = { λ _ _. Unit {0} };
 
     ghost shows = { λ _ _. Unit {0} };
@@ -51,7 +56,12 @@ impl Kind for Toy {
 
     ghost splits = { λ _ _ _. Unit {0} };
 
-    fn look(&mut self, zone: &[Literal]) -> Result<ZoneLook<u16, u16>, OutOfMemory> {
+    // It has looked once for each unit.
+    fn look(&mut self, zone: &[Literal], spent: u32) -> Result<ZoneLook<u16, u16>, OutOfMemory> {
+        if spent != self.looks {
+            return Ok(ZoneLook::Refuted(u16::MAX));
+        }
+        self.looks = spent.saturating_add(1);
         for fixture in 0..self.fixtures {
             match known_of(zone, fixture) {
                 Known::Nothing => return Ok(ZoneLook::Split(Test::Home { fixture })),
@@ -81,10 +91,12 @@ fn write_node(text: &mut String, node: &CaseNode<u16>) -> Result<(), Fail> {
 
 // A search's end: a word, then the nodes, a split as h or d with its fixture, a reason as x.
 fn told(alloc: Global, fixtures: u16, is_won: bool, budget: u32) -> Result<String, Fail> {
-    if budget < 1 {
-        return Err("a budget has a unit at least".into());
-    }
-    let mut toy = Toy { fixtures, is_won };
+    let looks = 0;
+    let mut toy = Toy {
+        fixtures,
+        is_won,
+        looks,
+    };
     let mut text = String::new(alloc);
     let nodes = match work_through(alloc, &mut toy, budget)? {
         SearchEnd::Won(fixtures) => {
@@ -109,7 +121,8 @@ fn told(alloc: Global, fixtures: u16, is_won: bool, budget: u32) -> Result<Strin
 fn trees_of_a_toy_kind_are_as_worked_by_hand(rt: HostRuntime) -> Result<(), Fail> {
     let alloc = rt.alloc();
     for (fixtures, is_won, budget, wanted) in [
-        (0u16, false, 1u32, "x0 "),
+        (0u16, false, 0u32, "spent o "),
+        (0, false, 1, "x0 "),
         (0, true, 1, "won 0 "),
         (1, true, 1, "spent h0 o o "),
         (1, true, 2, "won 1 "),

@@ -1,21 +1,16 @@
 -- Zones below a base: what is lent there.
 use Rattle.std.proofs.Common.{◌≡◌, ℕ, Bool, true, false, ◌==◌, cond, List, [], ◌∷◌, ◌++◌, map, refl}
 use Rattle.std.proofs.Common.{sym, ap, ap₂, ◌∙◌}
-use Rattle.std.proofs.lemmas.List.{append_assoc, append-nil}
-use Rattle.league_core.specs.declared.zone.Test.{Test}
+use Rattle.std.proofs.lemmas.List.{append-nil}
 use Rattle.league_core.specs.declared.zone.Literal.{Literal}
 use Rattle.league_core.specs.search.Zones.{with_test}
 use Rattle.league_core.specs.search.Trees.{Tree, open_leaf, lent_leaf, refuted_leaf, branch}
 use Rattle.league_core.specs.inside.Lending.{lent_zones}
+use Rattle.depth_search.proofs.ZoneTreeLemmas.{with_test-below}
 
 -- a zone below a base, after the base
 abbrev after : List Literal → List Literal → List Literal
 after base way = base ++ way
-
-with_test-below : (base zone : List Literal) (test : Test) (holds : Bool)
-    → with_test (base ++ zone) test holds ≡ base ++ with_test zone test holds
-with_test-below base zone test holds =
-    append_assoc base zone (record { test = test; yes = holds } ∷ [])
 
 map_both : (base : List Literal) (xs ys : List (List Literal))
     → map (after base) (xs ++ ys) ≡ map (after base) xs ++ map (after base) ys

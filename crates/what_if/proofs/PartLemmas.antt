@@ -1,7 +1,7 @@
 -- What is known of a question given a base as a part of an answer, and the word and the lines that
 -- the two parts about a club and a line give.
 use Rattle.std.proofs.Common.{◌≡◌, ℕ, ◌<◌, false, true, List, [], length, Vec, Global, refl, ap}
-use Rattle.std.proofs.Common.{◌∙◌, subst, Result, Ok, Err}
+use Rattle.std.proofs.Common.{sym, map, ◌∙◌, subst, Result, Ok, Err}
 use Rattle.std.specs.Prelude.{IfOk}
 use Rattle.std.specs.List.{list_all}
 use Rattle.league_core.specs.declared.sheet.Sheet.{Sheet}
@@ -13,10 +13,14 @@ use Rattle.league_core.specs.game.Seasons.{IsLeague, IsSeasonOf}
 use Rattle.league_core.specs.game.Sheets.{IsWithinLimits}
 use Rattle.league_core.specs.game.Questions.{full_question}
 use Rattle.league_core.specs.search.GivenVerdicts.{HoldsNowhereIn, IsExampleIn}
-use Rattle.league_core.specs.search.Trees.{Tree}
+use Rattle.league_core.specs.declared.zone.Reason.{Reason}
+use Rattle.depth_search.specs.declared.kind.CaseNode.{CaseNode}
+use Rattle.depth_search.specs.inside.Cases.{Cases, case_nodes}
+use Rattle.depth_search.specs.inside.ZoneTrees.{new_node, new_tree}
+use Rattle.depth_search.proofs.ZoneTreeLemmas.{preorder-cases}
 use Rattle.cert_text.specs.declared.proof_line.ProofLine.{ProofLine}
 use Rattle.cert_text.specs.Ranges.{is_in_range}
-use Rattle.cert_text.specs.TreeLines.{marked_lines, with_spent_head}
+use Rattle.cert_text.specs.TreeLines.{marked_line, marked_lines, with_spent_head}
 use Rattle.cert_text.specs.ExampleLines.{example_lines}
 use Rattle.cert_text.proofs.TreeRangeLemmas.{marked_lines_below}
 use Rattle.cert_text.proofs.ExampleRangeLemmas.{example_in_range}
@@ -61,21 +65,28 @@ refuted_given sheet season zone question part nowhere known are = record {
   in_range = ap (list_all is_in_range) are;
 }
 
--- a tree on which the budget was spent as a part
+-- the nodes of a tree on which the budget was spent as a part
 pub spent_given : {E : Type 0} (sheet : Sheet) (season : Results) (zone : List Literal)
-    (question : Question) (tree : Tree) (result : Result Part E) → is_base_of sheet zone ≡ true
-    → IsFairlySpentBelow sheet season question zone sheet.budget tree
+    (question : Question) (nodes : List (CaseNode Reason)) (result : Result Part E)
+    → is_base_of sheet zone ≡ true
+    → ((cases : Cases Reason) × (case_nodes cases ≡ nodes)
+    × IsFairlySpentBelow sheet season question zone sheet.budget (new_tree cases))
     → IfOk result (λ part. part.kind ≡ Spent)
-    → IfOk result
-    (λ part. part.lines.items ≡ with_spent_head question.claim (marked_lines tree))
+    → IfOk result (λ part. part.lines.items
+    ≡ with_spent_head question.claim (map marked_line (map new_node nodes)))
     → IfOk result (IsAnswerPartGiven sheet season zone question)
-spent_given {E} sheet season zone question tree (Ok part) of_base spent known are = record {
-  shows = rw known (tree, spent, are);
-  in_range = ap (list_all is_in_range) are
-      ∙ marked_lines_below sheet season question tree zone (no_rival_named sheet zone of_base)
-      spent.tests spent.reasons;
-}
-spent_given {E} sheet season zone question tree (Err stop) of_base spent known are = tt
+spent_given {E} sheet season zone question nodes (Ok part) of_base spent known are =
+    let tree = new_tree spent.0 in
+    let lines : map marked_line (map new_node nodes) ≡ marked_lines tree =
+    ap (map marked_line) (ap (map new_node) (sym spent.1) ∙ sym (preorder-cases spent.0)) in
+    let shown = are ∙ ap (with_spent_head question.claim) lines in
+    record {
+      shows = rw known (tree, spent.2, shown);
+      in_range = ap (list_all is_in_range) shown
+          ∙ marked_lines_below sheet season question tree zone (no_rival_named sheet zone of_base)
+          spent.2.tests spent.2.reasons;
+    }
+spent_given {E} sheet season zone question nodes (Err stop) of_base spent known are = tt
 
 -- the league that tables are of
 pub played_league : (sheet other : Sheet) (season read : Results) → other ≡ sheet

@@ -1,243 +1,188 @@
--- A task stays good while a leaf of it is worked on, and what its end says.
-use Rattle.std.proofs.Common.{◌≡◌, ℕ, ◌+◌, ◌*◌, ◌<◌, ◌≤◌, Bool, true, false, ◌==◌, nat_lt, List, []}
-use Rattle.std.proofs.Common.{◌∷◌, ◌++◌, length, map, refl, sym, ap, ◌∙◌, subst, arith}
-use Rattle.std.specs.List.{All}
-use Rattle.std.proofs.lemmas.Bool.{true≢false, and_from, eq-eqb, ltb-true, ltb-false}
-use Rattle.std.proofs.lemmas.List.Elements.{All-nil, All-cons, All-head}
-use Rattle.league_core.specs.declared.sheet.Sheet.{Sheet}
-use Rattle.league_core.specs.declared.question.Question.{Question}
+-- A look at the end of a way below a base, and what the end of a search there says.
+use Rattle.std.proofs.Common.{◌≡◌, ℕ, ◌<◌, Bool, true, false, ◌==◌, List, [], ◌++◌, length, refl}
+use Rattle.std.proofs.Common.{sym, ap, ◌∙◌, subst, append-nil}
+use Rattle.std.specs.List.{list_all}
+use Rattle.std.proofs.lemmas.Bool.{and_from, eq-eqb}
 use Rattle.league_core.specs.declared.zone.Test.{Test}
 use Rattle.league_core.specs.declared.zone.Literal.{Literal}
 use Rattle.league_core.specs.declared.zone.Reason.{Reason}
-use Rattle.league_core.specs.game.Results.{Results, are_results}
-use Rattle.league_core.specs.game.Seasons.{IsSeasonOf, IsLeague}
-use Rattle.league_core.specs.search.Zones.{IsZoneFor}
+use Rattle.league_core.specs.game.Results.{are_results}
+use Rattle.league_core.specs.game.Seasons.{IsLeague}
+use Rattle.league_core.specs.game.Questions.{IsQuestionOf}
+use Rattle.league_core.specs.search.Zones.{IsZoneFor, with_test}
 use Rattle.league_core.specs.search.Options.{has_finish}
-use Rattle.league_core.specs.search.Reasons.{has_reason}
-use Rattle.league_core.specs.search.Trees.{Tree, open_leaf, refuted_leaf, branch, NodesMeet}
-use Rattle.league_core.specs.search.Trees.{new_count}
-use Rattle.league_core.specs.search.Trees.{node_count, has_open, is_refuted}
-use Rattle.league_core.specs.inside.Lending.{lent_count, times_lent, lent_zones, put}
-use Rattle.league_core.specs.search.Splits.{IsProperNode, IsReasonTrue, IsUnitIfNew, IsFairSplit}
-use Rattle.league_core.proofs.HalfLemmas.{nodes_have_finish}
-use Rattle.league_core.proofs.LendingLemmas.{settled_is_refuted, length-lent_zones}
-use Rattle.league_core.proofs.NodeFactLemmas.{NodesMeet-put, NodesMeet-lend, NodesMeet-lent}
-use Rattle.league_core.proofs.PutLemmas.{new_count-put, lent_count-put, node_count-put}
+use Rattle.league_core.specs.search.Trees.{NodesMeet, new_count, has_open}
+use Rattle.league_core.specs.search.Splits.{IsProperNode, IsReasonTrue, IsUnitIfNew}
+use Rattle.league_core.proofs.HalfLemmas.{half_has_finish}
 use Rattle.league_core.proofs.TreeLemmas.{NodesMeet-weaker}
-use Rattle.league_core.specs.search.GivenVerdicts.{HoldsNowhereIn, IsExampleIn}
-use Rattle.reason_laws.proofs.HalfMarkLemmas.{zones_for}
+use Rattle.reason_laws.proofs.HalfMarkLemmas.{proper_names, zone_for_half}
 use Rattle.reason_laws.proofs.RefutationLemmas.{refutation_below, refuted_from}
-use Rattle.cert_text.proofs.ProperLemmas.{proper_tests}
+use Rattle.reason_core.specs.declared.finding.Finding.{Finding}
+use Rattle.reason_core.specs.declared.finding.Finding.TheVariants as finding
+use Rattle.tree_arena.specs.declared.example.Example.{Example}
 use Rattle.tree_arena.specs.inside.GoodNodes.{IsGoodNode}
-use Rattle.tree_arena.proofs.GoodNodeLemmas.{open_is_good, lent_is_good}
-use Rattle.branch_rules.specs.inside.Found.{IsProposedExample}
+use Rattle.tree_arena.proofs.GoodNodeLemmas.{open_is_good}
+use Rattle.depth_search.specs.declared.kind.SearchEnd.{SearchEnd}
+use Rattle.depth_search.specs.declared.kind.SearchEnd.TheVariants.{Won, Refuted, Spent}
+use Rattle.depth_search.specs.inside.Cases.{Cases, case_nodes, is_made, HoldsBelow}
+use Rattle.depth_search.specs.inside.Cases.{left_open, refuted, split}
+use Rattle.depth_search.specs.inside.Searches.{FitHalves, IsEndOf, IsFoundBy, IsSpentAfter}
+use Rattle.depth_search.specs.inside.ZoneTrees.{new_tree}
+use Rattle.depth_search.proofs.ZoneTreeLemmas.{NodesMeet-cases, cases_spent, is_refuted-cases}
+use Rattle.depth_search.proofs.ZoneTreeLemmas.{with_test-below}
+use Rattle.cert_text.proofs.ProperLemmas.{proper_tests}
 use Rattle.answer_rows.specs.NewTrees.{is_all_new}
-use Rattle.answer_rows.proofs.NewTreeLemmas.{is_all_new-put, is_all_new-lend}
-use Rattle.what_if.specs.declared.task.Task.{Task}
+use Rattle.branch_rules.specs.inside.Found.{IsFoundIn}
 use Rattle.what_if.specs.Bases.{is_base_of}
 use Rattle.what_if.specs.Given.{IsFairlySpentBelow}
-use Rattle.what_if.specs.inside.Tasks.{IsTask}
-use Rattle.what_if.proofs.BelowLemmas.{lent_zones-below}
+use Rattle.what_if.specs.inside.Tasks.{Asked, MayLook, ShowsBelow, RefutesBelow, SplitsBelow}
+use Rattle.what_if.specs.inside.Tasks.{IsSolvedGiven, look_of}
 use Rattle.what_if.proofs.BaseLemmas.{base_for, proposed_member}
 
-pub task_begun : (sheet : Sheet) (season : Results) (question : Question) (base : List Literal)
-    → IsTask sheet season question base (record { tree = open_leaf; units = 0 })
-task_begun sheet season question base = record {
-  nodes = open_is_good sheet season question base;
-  all_new = refl;
-  units_are = refl;
-  none_lent = refl;
-  few = omega arith;
+-- ---- where can be looked
+
+-- at the root
+pub look_at_root : (asked : Asked) → IsLeague asked.league.sheet asked.league.season
+    → asked.league.sheet ≡ asked.tables.sheet → asked.league.season ≡ asked.tables.season
+    → IsQuestionOf asked.league.sheet asked.question
+    → is_base_of asked.league.sheet asked.base ≡ true
+    → has_finish asked.league.sheet asked.league.season asked.base ≡ true → MayLook asked []
+look_at_root asked league sheet season of_sheet of_base some = record {
+  league = league;
+  sheet = sheet;
+  season = season;
+  of_sheet = of_sheet;
+  of_base = of_base;
+  for_question = subst (IsZoneFor asked.league.sheet asked.question)
+      (sym (append-nil asked.base)) (base_for asked.league.sheet asked.question asked.base of_base);
+  has_finish = ap (has_finish asked.league.sheet asked.league.season) (append-nil asked.base)
+      ∙ some;
 }
 
--- ---- a leaf is lent
-
--- below a base
-lent_below : (number : ℕ) (base way : List Literal) (tree : Tree)
-    → lent_zones number [] tree ≡ way ∷ []
-    → lent_zones number base tree ≡ (base ++ way) ∷ []
-lent_below number base way tree lent =
-    lent_zones-below number base tree ∙ ap (map (λ (z : List Literal). base ++ z)) lent
-
-pub lent_one : (number : ℕ) (way : List Literal) (tree : Tree)
-    → lent_zones number [] tree ≡ way ∷ [] → times_lent number tree ≡ 1
-lent_one number way tree lent = sym (length-lent_zones number tree []) ∙ ap length lent
-
--- its zone is one for the question, and has a finish
-pub lent_fits : (sheet : Sheet) (season : Results) (question : Question) (base way : List Literal)
-    (tree : Tree) (task : Task) → IsTask sheet season question base task
-    → is_base_of sheet base ≡ true → has_finish sheet season base ≡ true
-    → put 0 open_leaf tree ≡ task.tree → lent_zones 0 [] tree ≡ way ∷ []
-    → IsZoneFor sheet question (base ++ way) × (has_finish sheet season (base ++ way) ≡ true)
-lent_fits sheet season question base way tree task good of_base some leaf lent = (
-  All-head (IsZoneFor sheet question) (base ++ way) []
-      (subst (All (IsZoneFor sheet question)) (lent_below 0 base way tree lent)
-      (NodesMeet-lent (λ z node. IsZoneFor sheet question z) 0 tree base
-      (zones_for sheet season question tree base (base_for sheet question base of_base) proper))),
-  All-head (λ z. has_finish sheet season z ≡ true) (base ++ way) []
-      (subst (All (λ z. has_finish sheet season z ≡ true)) (lent_below 0 base way tree lent)
-      (NodesMeet-lent (λ z node. has_finish sheet season z ≡ true) 0 tree base
-      (nodes_have_finish sheet season question tree base some proper))),
-)
-  where
-    whole : NodesMeet (IsProperNode sheet season question) base task.tree
-    whole = NodesMeet-weaker (IsGoodNode sheet season question)
-        (IsProperNode sheet season question) (λ zone node fact. fact.proper) task.tree base
-        good.nodes
-
-    proper : NodesMeet (IsProperNode sheet season question) base tree
-    proper = NodesMeet-lend (IsProperNode sheet season question) 0 tree base
-        (λ z out fact. tt) (rw leaf whole)
-
--- ---- what comes in its place
-
--- a new tree of one unit
-record IsUnitTree (sheet : Sheet) (season : Results) (question : Question)
-    (zone : List Literal) (new : Tree) : Type 0 where
-  nodes : NodesMeet (IsGoodNode sheet season question) zone new
-  one : new_count new ≡ 1
-  none : lent_count new ≡ 0
-  few : node_count new ≤ 3
-  all_new : is_all_new new ≡ true
-
-task_put : (sheet : Sheet) (season : Results) (question : Question) (base way : List Literal)
-    (tree new : Tree) (task : Task) → IsTask sheet season question base task
-    → put 0 open_leaf tree ≡ task.tree → lent_zones 0 [] tree ≡ way ∷ []
-    → IsUnitTree sheet season question (base ++ way) new
-    → IsTask sheet season question base
-    (record { tree = put 0 new tree; units = task.units + 1 })
-task_put sheet season question base way tree new task good leaf lent unit =
-    let Node = IsGoodNode sheet season question in
-    let once = lent_one 0 way tree lent in
-    let news = rw once at (new_count-put 0 new tree) in
-    let loans = rw once at (lent_count-put 0 new tree) in
-    let nodes = rw once at (node_count-put 0 new tree) in
-    let old_news = rw once at (new_count-put 0 open_leaf tree) in
-    let old_loans = rw once at (lent_count-put 0 open_leaf tree) in
-    let old_nodes = rw once at (node_count-put 0 open_leaf tree) in
-    let was_news : task.units ≡ new_count (put 0 open_leaf tree) =
-    good.units_are ∙ ap new_count (sym leaf) in
-    let was_loans : lent_count (put 0 open_leaf tree) ≡ 0 = ap lent_count leaf ∙ good.none_lent in
-    let was_nodes : node_count (put 0 open_leaf tree) ≤ 1 + 2 * task.units = rw leaf good.few in
+-- in a half of a split
+half_fits : (asked : Asked) (way : List Literal) (test : Test) (holds : Bool) → MayLook asked way
+    → SplitsBelow asked way test → MayLook asked (with_test way test holds)
+half_fits asked way test holds may fair =
+    let league = asked.league in
+    let zone = asked.base ++ way in
+    let names = proper_names league.sheet league.season asked.question zone test fair.proper in
     record {
-      nodes = NodesMeet-put Node 0 new tree base
-          (NodesMeet-lend Node 0 tree base
-          (λ z out fact. lent_is_good sheet season question z out) (rw leaf good.nodes))
-          (rw (lent_below 0 base way tree lent)
-          (All-cons (λ z. NodesMeet Node z new) (base ++ way) [] unit.nodes
-          (All-nil (λ z. NodesMeet Node z new))));
-      all_new = is_all_new-put 0 new tree unit.all_new
-          (is_all_new-lend 0 tree (ap is_all_new leaf ∙ good.all_new));
-      units_are = omega (arith, news, old_news, was_news, unit.one);
-      none_lent = omega (arith, loans, old_loans, was_loans, unit.none);
-      few = omega (arith, nodes, old_nodes, was_nodes, unit.few);
+      league = may.league;
+      sheet = may.sheet;
+      season = may.season;
+      of_sheet = may.of_sheet;
+      of_base = may.of_base;
+      for_question = subst (IsZoneFor league.sheet asked.question)
+          (with_test-below asked.base way test holds)
+          (zone_for_half league.sheet asked.question zone test holds may.for_question names.0
+          names.1);
+      has_finish = ap (has_finish league.sheet league.season)
+          (sym (with_test-below asked.base way test holds))
+          ∙ half_has_finish league.sheet league.season asked.question zone test holds
+          may.has_finish fair.proper;
     }
 
-pub task_refuted : (sheet : Sheet) (season : Results) (question : Question)
-    (base way : List Literal) (tree : Tree) (reason : Reason) (task : Task)
-    → IsTask sheet season question base task
-    → put 0 open_leaf tree ≡ task.tree → lent_zones 0 [] tree ≡ way ∷ []
-    → has_reason sheet season question (base ++ way) reason ≡ true
-    → IsTask sheet season question base
-    (record { tree = put 0 (refuted_leaf reason true) tree; units = task.units + 1 })
-task_refuted sheet season question base way tree reason task good leaf lent holds =
-    task_put sheet season question base way tree (refuted_leaf reason true) task good leaf lent
-    (record {
-      nodes = record { proper = tt; refuted = holds; unit = λ new. (new, holds) };
-      one = refl;
-      none = refl;
-      few = omega arith;
-      all_new = refl;
-    })
+-- ---- what is found there
 
-pub task_split : (sheet : Sheet) (season : Results) (question : Question)
-    (base way : List Literal) (tree : Tree) (test : Test) (task : Task)
-    → IsTask sheet season question base task
-    → put 0 open_leaf tree ≡ task.tree → lent_zones 0 [] tree ≡ way ∷ []
-    → IsFairSplit sheet season question (base ++ way) test
-    → IsTask sheet season question base
-    (record { tree = put 0 (branch test true open_leaf open_leaf) tree; units = task.units + 1 })
-task_split sheet season question base way tree test task good leaf lent fair =
-    task_put sheet season question base way tree (branch test true open_leaf open_leaf) task good
-    leaf lent
-    (record {
-      nodes = (
-        record { proper = fair.proper; refuted = tt; unit = λ new. (new, fair) },
-        open_is_good sheet season question _,
-        open_is_good sheet season question _,
-      );
-      one = refl;
-      none = refl;
-      few = omega arith;
-      all_new = refl;
-    })
-
--- ---- an example
-
--- the proposed finish of a zone below the base, where it is an example
-pub task_won : (sheet : Sheet) (season : Results) (question : Question) (base way : List Literal)
-    (finish : Results) (lots : List ℕ) → IsSeasonOf sheet season
-    → is_base_of sheet base ≡ true → has_finish sheet season (base ++ way) ≡ true
-    → IsProposedExample sheet season question (base ++ way) finish lots
-    → IsExampleIn sheet season question base finish lots
-task_won sheet season question base way finish lots of_sheet of_base some found = record {
-  example = found.example;
+-- what the worker finds is what the search may take, and both halves of a split can be looked at
+pub look_found : (asked : Asked) (way : List Literal) (found : Finding) → MayLook asked way
+    → IsFoundIn asked.league.sheet asked.league.season asked.question (asked.base ++ way) found
+    → IsFoundBy (ShowsBelow asked) (RefutesBelow asked way) (SplitsBelow asked way) (look_of found)
+look_found asked way (finding.Won finish lots) may is = record {
+  example = is.example;
   member = record {
-    is_finish = found.example.is_finish;
-    is_drawn = found.example.is_drawn;
-    literals = rw found.proposed
-        (proposed_member sheet season question base way lots of_sheet of_base some);
+    is_finish = is.example.is_finish;
+    is_drawn = is.example.is_drawn;
+    literals = rw is.proposed
+        (proposed_member asked.league.sheet asked.league.season asked.question asked.base way lots
+        may.league.of_sheet may.of_base may.has_finish);
   };
 }
+look_found asked way (finding.Refuted reason) may is = is.first.holds
+look_found asked way (finding.Split literal) may is = is
+
+pub look_halves : (asked : Asked) (way : List Literal) (found : Finding) → MayLook asked way
+    → IsFoundIn asked.league.sheet asked.league.season asked.question (asked.base ++ way) found
+    → FitHalves (MayLook asked) way (look_of found)
+look_halves asked way (finding.Won finish lots) may is = tt
+look_halves asked way (finding.Refuted reason) may is = tt
+look_halves asked way (finding.Split literal) may is =
+    (half_fits asked way literal.test true may is, half_fits asked way literal.test false may is)
 
 -- ---- the end
 
--- each leaf is refuted: no member of the base is an example
-pub task_over : (sheet : Sheet) (season : Results) (question : Question) (base : List Literal)
-    (task : Task) → question.club < length sheet.clubs → IsTask sheet season question base task
-    → is_refuted task.tree ≡ true → HoldsNowhereIn sheet season question base
-task_over sheet season question base task club_in good refuted =
-    refutation_below sheet season question base task.tree club_in
-    (refuted_from sheet season question task.tree base refuted
-    (NodesMeet-weaker (IsGoodNode sheet season question) (IsReasonTrue sheet season question)
-    (λ zone node fact. fact.refuted) task.tree base good.nodes))
+-- the nodes of the tree of cases, below the base
+whole_good : (asked : Asked) (cases : Cases Reason)
+    → HoldsBelow (RefutesBelow asked) (SplitsBelow asked) [] cases
+    → NodesMeet (IsGoodNode asked.league.sheet asked.league.season asked.question) asked.base
+    (new_tree cases)
+whole_good asked cases below =
+    let league = asked.league in
+    let Good = IsGoodNode league.sheet league.season asked.question in
+    subst (λ zone. NodesMeet Good zone (new_tree cases)) (append-nil asked.base)
+    (NodesMeet-cases (RefutesBelow asked) (SplitsBelow asked) Good asked.base
+    (λ way. open_is_good league.sheet league.season asked.question (asked.base ++ way))
+    (λ way reason holds. record { proper = tt; refuted = holds; unit = λ new. (new, holds) })
+    (λ way test fair. record { proper = fair.proper; refuted = tt; unit = λ new. (new, fair) })
+    [] cases below)
 
--- some leaf is not, and no unit is left: the budget was spent
-pub task_spent : (sheet : Sheet) (season : Results) (question : Question) (base : List Literal)
-    (task : Task) (budget : ℕ) → IsLeague sheet season → are_results season ≡ true
-    → IsTask sheet season question base task → is_refuted task.tree ≡ false
-    → (task.units < budget → has_open task.tree ≡ false) → task.units ≤ budget
-    → IsFairlySpentBelow sheet season question base budget task.tree
-task_spent sheet season question base task budget league results good unrefuted shut within =
+-- all of it is new
+cases_new : (cases : Cases Reason) → is_all_new (new_tree cases) ≡ true
+cases_new left_open = refl
+cases_new (refuted reason) = refl
+cases_new (split test yes_half no_half) =
+    and_from (is_all_new (new_tree yes_half)) (is_all_new (new_tree no_half)) (cases_new yes_half)
+    (cases_new no_half)
+
+-- a tree on which the units were spent
+end_spent : (asked : Asked) (budget : ℕ) (cases : Cases Reason)
+    → IsLeague asked.league.sheet asked.league.season → are_results asked.league.season ≡ true
+    → HoldsBelow (RefutesBelow asked) (SplitsBelow asked) [] cases
+    → IsSpentAfter budget (case_nodes cases)
+    → IsFairlySpentBelow asked.league.sheet asked.league.season asked.question asked.base budget
+    (new_tree cases)
+end_spent asked budget cases league results below spent =
+    let sheet = asked.league.sheet in
+    let season = asked.league.season in
+    let question = asked.question in
+    let tree = new_tree cases in
+    let good = whole_good asked cases below in
+    let counts = cases_spent cases budget spent in
     record {
-      tests = proper_tests sheet season question task.tree base league results
+      tests = proper_tests sheet season question tree asked.base league results
           (NodesMeet-weaker (IsGoodNode sheet season question) (IsProperNode sheet season question)
-          (λ zone node fact. fact.proper) task.tree base good.nodes);
-      spent = and_from (new_count task.tree == budget) (has_open task.tree)
-          (eq-eqb (new_count task.tree) budget (sym good.units_are ∙ used)) ready;
+          (λ zone node fact. fact.proper) tree asked.base good);
+      spent = and_from (new_count tree == budget) (has_open tree)
+          (eq-eqb (new_count tree) budget counts.0) counts.1;
       reasons = NodesMeet-weaker (IsGoodNode sheet season question)
-          (IsReasonTrue sheet season question) (λ zone node fact. fact.refuted) task.tree base
-          good.nodes;
+          (IsReasonTrue sheet season question) (λ zone node fact. fact.refuted) tree asked.base
+          good;
       units = NodesMeet-weaker (IsGoodNode sheet season question)
-          (IsUnitIfNew sheet season question) (λ zone node fact. fact.unit) task.tree base
-          good.nodes;
-      all_new = good.all_new;
+          (IsUnitIfNew sheet season question) (λ zone node fact. fact.unit) tree asked.base good;
+      all_new = cases_new cases;
     }
-  where
-    some_open : (b : Bool) → has_open task.tree ≡ b → has_open task.tree ≡ true
-    some_open true is = is
-    some_open false is = absurd (true≢false
-        (sym (settled_is_refuted task.tree is good.none_lent) ∙ unrefuted))
 
-    ready : has_open task.tree ≡ true
-    ready = some_open (has_open task.tree) refl
-
-    all_used : (b : Bool) → nat_lt task.units budget ≡ b → task.units ≡ budget
-    all_used true less = absurd (true≢false (sym ready
-        ∙ shut (ltb-true task.units budget less)))
-    all_used false less =
-        let most = ltb-false task.units budget less in
-        omega (arith, most, within)
-
-    used : task.units ≡ budget
-    used = all_used (nat_lt task.units budget) refl
+-- what a search came to
+pub end_solved : (asked : Asked) (budget : ℕ) → IsLeague asked.league.sheet asked.league.season
+    → are_results asked.league.season ≡ true → asked.question.club < length asked.league.sheet.clubs
+    → (end : SearchEnd Example Reason)
+    → IsEndOf (ShowsBelow asked) (RefutesBelow asked) (SplitsBelow asked) budget end
+    → IsSolvedGiven asked.league.sheet asked.league.season asked.question asked.base budget end
+end_solved asked budget league results club_in (Won example) is = is
+end_solved asked budget league results club_in (Refuted nodes) is =
+    let sheet = asked.league.sheet in
+    let season = asked.league.season in
+    let tree = new_tree is.0.0 in
+    refutation_below sheet season asked.question asked.base tree club_in
+    (refuted_from sheet season asked.question tree asked.base
+    (is_refuted-cases is.0.0 ∙ ap (list_all is_made) is.0.2 ∙ is.1)
+    (NodesMeet-weaker (IsGoodNode sheet season asked.question)
+    (IsReasonTrue sheet season asked.question) (λ zone node fact. fact.refuted) tree asked.base
+    (whole_good asked is.0.0 is.0.1)))
+end_solved asked budget league results club_in (Spent nodes) is =
+    let tree = is.0 in (
+      tree.0,
+      tree.2,
+      end_spent asked budget tree.0 league results tree.1
+          (subst (IsSpentAfter budget) (sym tree.2) is.1),
+    )

@@ -1,7 +1,9 @@
 //! What stands for one question given a base.
 
-ghost use Rattle.std.specs.Prelude.{◌≡◌, [], IfOk};
+ghost use Rattle.std.specs.Prelude.{◌≡◌, [], IfOk, map};
 ghost use Rattle.league_core.specs.game.Questions.{IsExample, IsQuestionOf};
+ghost use Rattle.depth_search.specs.inside.ZoneTrees.{new_node};
+ghost use Rattle.cert_text.specs.TreeLines.{marked_line, with_spent_head};
 ghost use Rattle.what_if.specs.inside.GivenParts.{IsAnswerPartGiven, IsBaseIn};
 
 use crate::hints::Hints;
@@ -9,9 +11,10 @@ use crate::known_season::KnownSeason;
 use crate::literals::are_true;
 use crate::season_part::InSeason;
 use crate::task::solve_given;
-use answer_rows::{Part, PartKind, Solved};
+use answer_rows::{Part, PartKind, spent_lines};
 use branch_rules::ZoneSolver;
-use league_core::{Literal, OutOfMemory, Question};
+use depth_search::{CaseNode, SearchEnd, new_nodes};
+use league_core::{Literal, OutOfMemory, Question, Reason};
 use std::alloc::Global;
 use tree_arena::Example;
 
@@ -95,9 +98,16 @@ fn worked(
     let played = stage.played();
     let hints = Hints { played, example };
     match solve_given(alloc, solver, question, base, &hints, budget)? {
-        Solved::Won(finish, lots) => Part::won(alloc, sheet, season, question, &finish, &lots),
-        Solved::Refuted(_) => Ok(refuted(alloc)),
-        Solved::Spent(tree) => Part::spent(alloc, question, &tree),
+        SearchEnd::Won(example) => Part::won(
+            alloc,
+            sheet,
+            season,
+            question,
+            &example.finish,
+            &example.lots,
+        ),
+        SearchEnd::Refuted(_) => Ok(refuted(alloc)),
+        SearchEnd::Spent(nodes) => spent(alloc, question, nodes),
     }
 }
 
@@ -108,4 +118,20 @@ fn refuted(alloc: Global) -> Part
     let lines = Vec::new(alloc);
     let kind = PartKind::Refuted;
     Part { kind, lines }
+}
+
+// The nodes of a tree on which the budget was spent, under their head.
+fn spent(
+    alloc: Global,
+    question: &Question,
+    nodes: Vec<CaseNode<Reason>>,
+) -> Result<Part, OutOfMemory>
+    ensures kind { IfOk result (λ part. part.kind ≡ PartKind.Spent) }
+    ensures lines { IfOk result (λ part. part.lines.items
+        ≡ with_spent_head question.now.claim (map marked_line (map new_node nodes.items))) }
+{
+    let nodes = new_nodes(alloc, nodes)?;
+    let lines = spent_lines(alloc, question.claim, nodes.as_slice())?;
+    let kind = PartKind::Spent;
+    Ok(Part { kind, lines })
 }

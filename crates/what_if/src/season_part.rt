@@ -9,8 +9,9 @@ ghost use Rattle.what_if.specs.inside.SeasonParts.{AreTrueParts, IsInSeason};
 
 use crate::hints::Hints;
 use crate::task::solve_given;
-use answer_rows::{Solved, full_question};
+use answer_rows::full_question;
 use branch_rules::ZoneSolver;
+use depth_search::SearchEnd;
 use league_core::{Claim, OutOfMemory, Question};
 use score_box::Played;
 use std::alloc::Global;
@@ -170,9 +171,9 @@ fn known_of(
     };
     let units = played.sheet().budget / 8;
     match solve_given(alloc, solver, question, &[], &hints, units)? {
-        Solved::Won(finish, lots) => Ok(InSeason::Met(Example { finish, lots })),
-        Solved::Refuted(_) => Ok(InSeason::Nowhere),
-        Solved::Spent(_) => Ok(InSeason::Open),
+        SearchEnd::Won(example) => Ok(InSeason::Met(example)),
+        SearchEnd::Refuted(_) => Ok(InSeason::Nowhere),
+        SearchEnd::Spent(_) => Ok(InSeason::Open),
     }
 }
 

@@ -1,123 +1,102 @@
-//! One question, worked on from its root on, given a zone.
+//! One question, searched from its root on, given a zone.
 
-ghost use Rattle.std.specs.Prelude.{◌≡◌, ◌<◌, ◌≤◌, ◌++◌, IfOk, IsTrue, true};
+ghost use Rattle.std.specs.Prelude.{◌≡◌, [], ◌++◌, IfOk, IsTrue, OnOk};
 ghost use Rattle.league_core.specs.game.Seasons.{IsLeague};
 ghost use Rattle.league_core.specs.game.Questions.{IsQuestionOf};
 ghost use Rattle.league_core.specs.search.Options.{has_finish};
 ghost use Rattle.league_core.specs.game.Results.{are_results};
-ghost use Rattle.league_core.specs.search.Trees.{open_leaf, has_open};
 ghost use Rattle.what_if.specs.Bases.{is_base_of};
-ghost use Rattle.what_if.specs.inside.Tasks.{IsSolvedGiven, IsTask, WorksTask};
+ghost use Rattle.what_if.specs.inside.Tasks.{Asked, MayLook, ShowsBelow, RefutesBelow};
+ghost use Rattle.what_if.specs.inside.Tasks.{SplitsBelow, IsSolvedGiven, asked_of, look_of};
 
 use crate::hints::Hints;
-use answer_rows::Solved;
 use branch_rules::ZoneSolver;
-use league_core::{Literal, OutOfMemory, Question};
+use depth_search::{Kind, SearchEnd, ZoneLook, work_through};
+use league_core::{Literal, OutOfMemory, Question, Reason};
 use reason_core::{Finding, Solver};
 use std::alloc::Global;
-use tree_arena::{Example, Tree};
+use tree_arena::Example;
 
-/// How far a question is taken apart, and how many units that took.
+/// A question given a base, and what it is worked on with.
 #[derive(Drop)]
-struct Task {
-    tree: Tree,
-    units: u32,
+struct Task<'a, 's> {
+    alloc: Global,
+    solver: &'a mut ZoneSolver<'s>,
+    question: &'a Question,
+    base: &'a [Literal],
+    hints: &'a Hints<'a>,
+    // The zone that was looked at last: the base, and after it the way from the root.
+    zone: &'a mut Vec<Literal>,
 }
 
-impl Task {
-    // One open leaf.
-    fn begin(alloc: Global) -> Result<Task, OutOfMemory>
-        ensures { IfOk result (λ task. task ≡ record { tree = open_leaf; units = 0 }) }
-    {
-        Ok(Task {
-            tree: Tree::root(alloc)?,
-            units: 0,
-        })
-    }
+impl<'a, 's> Kind for Task<'a, 's> {
+    type Reason = Reason;
 
-    // An open leaf is worked on: an example is found, or the tree has one unit more.
-    fn work(
+    type Example = Example;
+
+    ghost Subject = { Asked };
+
+    ghost subject = { asked_of };
+
+    ghost fits = { MayLook };
+
+    ghost shows = { ShowsBelow };
+
+    ghost refutes = { RefutesBelow };
+
+    ghost splits = { SplitsBelow };
+
+    // An example is found beside the search, or the worker finds one of the three.
+    fn look(
         &mut self,
-        alloc: Global,
-        solver: &mut ZoneSolver,
-        question: &Question,
-        base: &[Literal],
-    ) -> Result<Option<Example>, OutOfMemory>
-        requires league { IsLeague solver.old.sheet solver.old.season }
-        requires of_sheet { IsQuestionOf solver.old.sheet question.now }
-        requires base { IsTrue (is_base_of solver.old.sheet base.now) }
-        requires has_finish { IsTrue
-            (has_finish solver.old.sheet solver.old.season base.now) }
-        requires task { IsTask solver.old.sheet solver.old.season question.now base.now self.old }
-        requires open_leaf { has_open self.old.tree ≡ true }
-        requires few { self.old.units < 50000 }
-        ensures works { IfOk result (WorksTask solver.old.sheet solver.old.season question.now
-            base.now self.old self.new) }
-        ensures same_sheet { solver.new.sheet ≡ solver.old.sheet }
-        ensures same_season { solver.new.season ≡ solver.old.season }
-    {
-        let Some(way) = self.tree.lend(0)? else {
-            unreachable!()
-        };
-        let zone = below(alloc, base, way.literals.as_slice())?;
-        let finding = solver.solve(question, zone.as_slice())?;
-        match finding {
-            Finding::Won(finish, lots) => Ok(Some(Example { finish, lots })),
-            Finding::Refuted(reason) => {
-                self.tree.refute(0, reason);
-                self.units += 1;
-                Ok(None)
-            }
-            Finding::Split(literal) => {
-                self.tree.split(0, literal.test);
-                self.units += 1;
-                Ok(None)
-            }
+        way: &[Literal],
+        spent: u32,
+    ) -> Result<ZoneLook<Example, Reason>, OutOfMemory> {
+        let found = self
+            .hints
+            .found(self.alloc, self.question, self.base, spent)?;
+        if let Some(example) = found {
+            return Ok(ZoneLook::Won(example));
         }
+        put_zone(self.zone, self.base, way)?;
+        let finding = self.solver.solve(self.question, self.zone.as_slice())?;
+        Ok(look_of(finding))
     }
 }
 
-impl Task {
-    // An example is found beside the search, or a leaf is worked on.
-    fn turn(
-        &mut self,
-        alloc: Global,
-        solver: &mut ZoneSolver,
-        question: &Question,
-        base: &[Literal],
-        hints: &Hints,
-    ) -> Result<Option<Example>, OutOfMemory>
-        requires sheet { solver.old.sheet ≡ hints.now.played.now.sheet }
-        requires season { solver.old.season ≡ hints.now.played.now.season }
-        requires league { IsLeague solver.old.sheet solver.old.season }
-        requires of_sheet { IsQuestionOf solver.old.sheet question.now }
-        requires base { IsTrue (is_base_of solver.old.sheet base.now) }
-        requires has_finish { IsTrue
-            (has_finish solver.old.sheet solver.old.season base.now) }
-        requires task { IsTask solver.old.sheet solver.old.season question.now base.now self.old }
-        requires open_leaf { has_open self.old.tree ≡ true }
-        requires few { self.old.units < 50000 }
-        ensures works { IfOk result (WorksTask solver.old.sheet solver.old.season question.now
-            base.now self.old self.new) }
-        ensures same_sheet { solver.new.sheet ≡ solver.old.sheet }
-        ensures same_season { solver.new.season ≡ solver.old.season }
+impl<'a, 's> Task<'a, 's> {
+    // Depth first, until the question is known or the budget is spent.
+    fn work(&mut self, budget: u32) -> Result<SearchEnd<Example, Reason>, OutOfMemory>
+        requires results { IsTrue (are_results self.old.solver.now.season) }
+        requires root { MayLook (asked_of self.old) [] }
+        ensures solved { IfOk result (IsSolvedGiven self.old.solver.now.sheet
+            self.old.solver.now.season self.old.question.now self.old.base.now budget) }
+        ensures same_worker { self.new.solver.ghost_name ≡ self.old.solver.ghost_name }
+        ensures same_sheet { self.new.solver.now.sheet ≡ self.old.solver.now.sheet }
+        ensures same_season { self.new.solver.now.season ≡ self.old.solver.now.season }
     {
-        let found = hints.found(alloc, question, base, self.units)?;
-        if found.is_some() {
-            return Ok(found);
-        }
-        self.work(alloc, solver, question, base)
+        work_through(self.alloc, self, budget)
     }
 }
 
 // The zone that a base and a way from the root below it make.
-fn below(alloc: Global, base: &[Literal], way: &[Literal]) -> Result<Vec<Literal>, OutOfMemory>
-    ensures { IfOk result (λ zone. zone.items ≡ base.now ++ way.now) }
+fn put_zone(zone: &mut Vec<Literal>, base: &[Literal], way: &[Literal]) -> Result<(), OutOfMemory>
+    ensures { OnOk result (zone.new.items ≡ base.now ++ way.now) }
 {
-    let mut zone = Vec::with_capacity(alloc, base.len().saturating_add(way.len()))?;
+    zone.clear();
     zone.extend_from_slice(base)?;
     zone.extend_from_slice(way)?;
-    Ok(zone)
+    Ok(())
+}
+
+fn look_of(finding: Finding) -> ZoneLook<Example, Reason>
+    ensures { result ≡ look_of finding }
+{
+    match finding {
+        Finding::Won(finish, lots) => ZoneLook::Won(Example { finish, lots }),
+        Finding::Refuted(reason) => ZoneLook::Refuted(reason),
+        Finding::Split(literal) => ZoneLook::Split(literal.test),
+    }
 }
 
 /// Works on a question given a base, depth first, until it is known or the budget is spent.
@@ -128,7 +107,7 @@ pub(crate) fn solve_given(
     base: &[Literal],
     hints: &Hints,
     budget: u32,
-) -> Result<Solved, OutOfMemory>
+) -> Result<SearchEnd<Example, Reason>, OutOfMemory>
     requires league { IsLeague solver.old.sheet solver.old.season }
     requires results { IsTrue (are_results solver.old.season) }
     requires of_sheet { IsQuestionOf solver.old.sheet question.now }
@@ -136,23 +115,19 @@ pub(crate) fn solve_given(
     requires has_finish { IsTrue (has_finish solver.old.sheet solver.old.season base.now) }
     requires sheet { solver.old.sheet ≡ hints.now.played.now.sheet }
     requires season { solver.old.season ≡ hints.now.played.now.season }
-    requires budget { budget ≤ 50000 }
     ensures solved { IfOk result
         (IsSolvedGiven solver.old.sheet solver.old.season question.now base.now budget) }
     ensures same_sheet { solver.new.sheet ≡ solver.old.sheet }
     ensures same_season { solver.new.season ≡ solver.old.season }
 {
-    let mut task = Task::begin(alloc)?;
-    while task.units < budget && task.tree.has_open() {
-        let found = task.turn(alloc, solver, question, base, hints)?;
-        if let Some(Example { finish, lots }) = found {
-            return Ok(Solved::Won(finish, lots));
-        }
-    }
-    let Task { tree, units: _ } = task;
-    if tree.is_refuted() {
-        Ok(Solved::Refuted(tree))
-    } else {
-        Ok(Solved::Spent(tree))
-    }
+    let mut zone = Vec::new(alloc);
+    let mut task = Task {
+        alloc,
+        solver,
+        question,
+        base,
+        hints,
+        zone: &mut zone,
+    };
+    task.work(budget)
 }

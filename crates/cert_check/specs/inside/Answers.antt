@@ -15,7 +15,8 @@ use Rattle.cert_check.specs.declared.expected.RowWord.TheVariants.{Clinched, Los
 use Rattle.cert_check.specs.declared.expected.RowWord.TheVariants.{Unsettled}
 use Rattle.cert_check.specs.ExpectedItems.{Basis, Expected, verdict_row, ask_fields, verdict_fields}
 use Rattle.line_tokens.specs.LineRanges.{name_of_club}
-use Rattle.cert_check.specs.Machine.{ending_of, whole_at, rows_of, part_of_ask}
+use Rattle.cert_check.specs.LineGrammars.{whole_at}
+use Rattle.cert_check.specs.Machine.{ending_of, rows_of, part_of_ask}
 use Rattle.cert_check.specs.inside.Calls.{unsettled_in}
 
 -- the lines are a refutation under its head

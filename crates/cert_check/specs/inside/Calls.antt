@@ -25,9 +25,10 @@ use Rattle.line_tokens.specs.declared.token.Token.TheVariants.{Blank, Row, Proof
 use Rattle.cert_check.specs.declared.item.PartRead.{PartRead}
 use Rattle.cert_check.specs.declared.tree.TreeSpec.{TreeSpec}
 use Rattle.cert_check.specs.declared.tree.Walk.{Walk}
-use Rattle.cert_check.specs.ExpectedItems.{Basis, Expected, verdict_row, nodes, dues_of_word, Next}
-use Rattle.cert_check.specs.ExpectedItems.{bad, go}
-use Rattle.cert_check.specs.ExpectedItems.{after_node, head_in, scores_due, finish_with}
+use Rattle.cert_check.specs.LineGrammars.{Next, bad, go, Ending, whole_at, bad_line, no_proof}
+use Rattle.cert_check.specs.LineGrammars.{short, by_next}
+use Rattle.cert_check.specs.ExpectedItems.{Basis, Expected, verdict_row, nodes, dues_of_word}
+use Rattle.cert_check.specs.ExpectedItems.{after, after_node, head_in, scores_due, finish_with}
 use Rattle.cert_check.specs.declared.expected.Head.{Head}
 use Rattle.league_core.specs.declared.question.Claim.{Claim}
 use Rattle.league_core.specs.declared.season.Score.{Score}
@@ -36,7 +37,7 @@ use Rattle.league_core.specs.game.Ranking.{are_lots}
 use Rattle.cert_text.specs.declared.proof_line.ProofLine.TheVariants as line
 use Rattle.check_bounds.specs.inside.Trails.{TrailView, root_of}
 use Rattle.cert_check.specs.ExpectedItems.{is_path_for, lots_if_drawn}
-use Rattle.cert_check.specs.Machine.{Ending, whole_at, bad_line, no_proof, short, ending_of}
+use Rattle.cert_check.specs.Machine.{ending_of, with_unsettled}
 use Rattle.cert_check.specs.Machine.{part_of_ask}
 use Rattle.cert_check.specs.inside.Truths.{AreTrueRows}
 use Rattle.cert_check.specs.Machine.{part_ending}
@@ -86,9 +87,10 @@ pub record IsNextAt (judged : ReportView) (from at : ℕ) (token : Token) : Type
   pub fits : at + 1 < 2 ^ 64
   pub there : drop at judged.tokens ≡ token ∷ drop (at + 1) judged.tokens
   pub counted : IsTrue (counts token)
-  pub same : (due : Expected) (dues : List Expected) (unsettled : ℕ)
+  pub reads : (due : Expected) (dues : List Expected) (unsettled : ℕ)
       → ending_from judged from (due ∷ dues) unsettled
-      ≡ ending_from judged at (due ∷ dues) unsettled
+      ≡ by_next (after judged.basis due token) at
+      (λ more. ending_from judged (at + 1) (more ++ dues) (with_unsettled unsettled token))
 
 -- a call that looks for the next line that counts: there is none if lines are missing
 abbrev pub FindsNext : ReportView → ℕ → Result (ℕ × Token) CheckStopAt → Type 0
@@ -103,7 +105,7 @@ FindsNext judged from (Err (halt.NoProof at)) = ⊥
 -- ---- rows
 
 -- what is due after the row of an ask, if it is that
-abbrev pub after_ask_row_if : Bool → Next
+abbrev pub after_ask_row_if : Bool → Next Expected
 after_ask_row_if is = if is then go true [] else bad
 
 -- a row of this word counts so many unsettled rows
@@ -142,13 +144,13 @@ nodes_due wanted walk =
     nodes wanted.kind wanted.question walk.path.zone (pending_of walk.path.zone) walk.tally
 
 -- what is due after a node when it stands so
-abbrev pub after_walked : Basis → TreeSpec → Walk → TreeNode → Next
+abbrev pub after_walked : Basis → TreeSpec → Walk → TreeNode → Next Expected
 after_walked basis wanted walk node =
     after_node basis wanted.kind wanted.question walk.path.zone (pending_of walk.path.zone)
     walk.tally node
 
 -- what a call says of a node: true if it ends its tree, false if nodes are due after it
-abbrev pub NodeSays : Next → ℕ → Expected → Result Bool CheckStopAt → Type 0
+abbrev pub NodeSays : Next Expected → ℕ → Expected → Result Bool CheckStopAt → Type 0
 NodeSays next at due (Ok true) = next ≡ go true []
 NodeSays next at due (Ok false) = next ≡ go true (due ∷ [])
 NodeSays next at due (Err (halt.BadLine place)) = (place ≡ at) × (next ≡ bad)
@@ -175,13 +177,13 @@ example_due question fixture scores = scores_due question (take fixture scores) 
 
 -- what is due after a score, if the line is one that may come
 abbrev pub after_score_if : Question → List (Option Score) → List (Option Score) → Option Score →
-    Next
+    Next Expected
 after_score_if question ended left None = bad
 after_score_if question ended left (Some ending) =
     go true (scores_due question (ended ++ Some ending ∷ []) left ∷ [])
 
 -- what is due after lots, if the line has such
-abbrev pub after_lots_if : Basis → Question → List (Option Score) → Option (List ℕ) → Next
+abbrev pub after_lots_if : Basis → Question → List (Option Score) → Option (List ℕ) → Next Expected
 after_lots_if basis question ended None = bad
 after_lots_if basis question ended (Some drawn) =
     go (holds_at basis.sheet question (finish_with basis.season ended) drawn) []

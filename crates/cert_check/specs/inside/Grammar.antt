@@ -35,6 +35,9 @@ use Rattle.cert_check.specs.ExpectedItems.{ask_fields, verdict_fields}
 use Rattle.line_tokens.specs.LineRanges.{name_of_club}
 use Rattle.line_tokens.specs.LineRanges.{is_reason_for}
 use Rattle.cert_check.specs.ExpectedItems.{is_tally_whole, finish_with}
+use Rattle.line_tokens.specs.Tokens.{counts}
+use Rattle.cert_check.specs.Machine.{report_grammar}
+use Rattle.cert_check.specs.inside.LineParts.{PartGrammar, AreAllParts}
 
 -- ---- trees
 
@@ -203,9 +206,10 @@ IsPartFor proved basis (score question ended left) tokens =
     IsExampleFrom proved basis question ended (None ∷ left) tokens
 IsPartFor proved basis (lots question ended) tokens = AreLotsOf proved basis question ended tokens
 
+-- the grammar of reports with these parts
+abbrev pub report_parts : PartGrammar Basis Token Expected
+report_parts = record { reads = report_grammar; counts = counts; IsPart = IsPartFor }
+
 -- the lines are parts for what is due, one after another
 abbrev pub AreParts : Bool → Basis → List Expected → List Token → Type 0
-AreParts proved basis [] tokens = tokens ≡ []
-AreParts proved basis (due ∷ dues) tokens =
-    (front : List Token) × (back : List Token) × IsPartFor proved basis due front
-    × AreParts proved basis dues back × (tokens ≡ front ++ back)
+AreParts proved basis dues tokens = AreAllParts report_parts proved basis dues tokens

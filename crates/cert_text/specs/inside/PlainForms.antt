@@ -5,9 +5,10 @@ use Rattle.std.specs.List.{list_all}
 use Rattle.league_core.specs.declared.club_set.ClubSet.{ClubSet}
 use Rattle.league_core.specs.declared.zone.Test.{Test}
 use Rattle.league_core.specs.declared.zone.Reason.{Reason}
+use Rattle.league_core.specs.game.Limits.{most_clubs}
 use Rattle.cert_text.specs.declared.proof_line.ProofLine.TheVariants as line
 use Rattle.cert_text.specs.Lines.{Part, clubs, part_text, test_parts}
-use Rattle.cert_text.specs.Ranges.{is_club_number, is_test_in_range}
+use Rattle.cert_text.specs.Ranges.{is_one_of, is_test_below}
 use Rattle.cert_text.specs.Places.{set_listed}
 use Rattle.cert_text.specs.Forms.{line_in}
 
@@ -29,18 +30,20 @@ abbrev pub IsNumberBefore : ℕ → ℕ → List ℕ → ℕ → List ℕ → Ty
 IsNumberBefore least most text number behind =
     (least ≤ number) × (number ≤ most) × (text ≡ 44 ∷ (decimal number ++ behind))
 
--- the text goes on with this list of clubs, and ends
-abbrev pub AreClubsAtEnd : List ℕ → List ℕ → Type 0
-AreClubsAtEnd text list =
-    IsTrue (list_all is_club_number list) × (text ≡ text_of_rest (clubs list ∷ []))
+-- the text goes on with this list, of so many clubs, and ends
+abbrev pub AreClubsAtEnd : ℕ → List ℕ → List ℕ → Type 0
+AreClubsAtEnd most text list =
+    IsTrue (list_all (is_one_of most) list) × (text ≡ text_of_rest (clubs list ∷ []))
 
--- the text goes on with a list of clubs that is this set, and ends
+-- the text goes on with a list of clubs of a league that is this set, and ends
 abbrev pub IsSetAtEnd : List ℕ → ClubSet → Type 0
-IsSetAtEnd text set = (list : List ℕ) × AreClubsAtEnd text list × (set_listed list ≡ Some set)
+IsSetAtEnd text set =
+    (list : List ℕ) × AreClubsAtEnd most_clubs text list × (set_listed list ≡ Some set)
 
--- the text goes on with the parts of the test, and ends
-abbrev pub IsTestAtEnd : List ℕ → Test → Type 0
-IsTestAtEnd text test = IsTrue (is_test_in_range test) × (text ≡ text_of_rest (test_parts test))
+-- the text goes on with the parts of the test, of one of so many fixtures or clubs, and ends
+abbrev pub IsTestAtEnd : ℕ → ℕ → List ℕ → Test → Type 0
+IsTestAtEnd fixtures club_count text test =
+    IsTrue (is_test_below fixtures club_count test) × (text ≡ text_of_rest (test_parts test))
 
 -- after the name of a leaf it makes the line of this reason, new or not
 pub record IsReasonAtEnd (text : List ℕ) (reason : Reason) : Type 0 where

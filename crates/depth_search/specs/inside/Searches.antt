@@ -1,5 +1,5 @@
 -- What a kind finds in a zone, and what a search over it comes to.
-use Rattle.std.specs.Prelude.{◌≡◌, ℕ, ◌+◌, true, false, List, ◌++◌, length, replicate}
+use Rattle.std.specs.Prelude.{◌≡◌, ℕ, ◌≤◌, ◌+◌, true, false, List, ◌++◌, length, replicate}
 use Rattle.std.specs.Prelude.{IsTrue}
 use Rattle.std.specs.List.{list_all}
 use Rattle.league_core.specs.declared.zone.Literal.{Literal}
@@ -30,15 +30,6 @@ FitHalves fits zone (look.Refuted reason) = Unit {0}
 FitHalves fits zone (look.Split test) =
     fits (with_test zone test true) × fits (with_test zone test false)
 
--- what is shown, refuted or split after a look was so before it
-abbrev pub SaysNoMore : {E R : Type 0} → (E → Type 0) → (List Literal → R → Type 0)
-    → (List Literal → Test → Type 0) → (E → Type 0) → (List Literal → R → Type 0)
-    → (List Literal → Test → Type 0) → Type 0
-SaysNoMore {E} {R} shows refutes splits shows' refutes' splits' =
-    ((example : E) → shows' example → shows example)
-    × ((zone : List Literal) (reason : R) → refutes' zone reason → refutes zone reason)
-    × ((zone : List Literal) (test : Test) → splits' zone test → splits zone test)
-
 -- ---- a search
 
 -- the nodes are so many that were made, and then open leaves, at least one
@@ -48,12 +39,13 @@ IsSpentAfter {R} budget nodes =
     × (nodes ≡ made ++ replicate (1 + more) node.Open)
     × (length made ≡ budget) × IsTrue (list_all is_made made)
 
--- what a search came to: an example; a tree without an open leaf; or one with as many other nodes
--- as the budget has units, and open leaves after them
+-- what a search came to: an example; a tree without an open leaf, with no more nodes than the
+-- budget has units; or one with as many other nodes, and open leaves after them
 abbrev pub IsEndOf : {E R : Type 0} → (E → Type 0) → (List Literal → R → Type 0)
     → (List Literal → Test → Type 0) → ℕ → SearchEnd E R → Type 0
 IsEndOf shows refutes splits budget (end.Won example) = shows example
 IsEndOf shows refutes splits budget (end.Refuted nodes) =
     AreOfTree refutes splits nodes.items × IsTrue (list_all is_made nodes.items)
+    × (length nodes.items ≤ budget)
 IsEndOf shows refutes splits budget (end.Spent nodes) =
     AreOfTree refutes splits nodes.items × IsSpentAfter budget nodes.items

@@ -5,7 +5,8 @@ use Rattle.league_core.specs.game.Results.{Results}
 use Rattle.line_tokens.specs.declared.token.Token.{Token}
 use Rattle.cert_check.specs.declared.expected.RowWord.{RowWord}
 use Rattle.cert_check.specs.declared.expected.RowWord.TheVariants as row
-use Rattle.cert_check.specs.Machine.{ending_of, whole_at, part_of_ask}
+use Rattle.cert_check.specs.LineGrammars.{whole_at}
+use Rattle.cert_check.specs.Machine.{ending_of, part_of_ask}
 use Rattle.cert_check.specs.Machine.{basis_of}
 use Rattle.cert_check.specs.inside.Answers.{ShownItem, answer_tokens}
 use Rattle.answer_rows.specs.declared.word.Word.{Word}

@@ -1,34 +1,15 @@
 //! The points of one fixture: three for a win, one to each side for a draw, by the outcomes that
 //! its cell has left.
 
-ghost use Rattle.std.specs.Prelude.{◌≡◌, ◌≤◌, if◌then◌else◌};
-ghost use Rattle.league_core.specs.search.PointRanges.{won_points, drawn_points, lost_points};
-ghost use Rattle.score_box.specs.inside.Cells.{IsEmptyCell};
-ghost use Rattle.score_box.specs.inside.Points.{least_of_three, most_of_three, IsPointsOf};
-
-use crate::cell::Cell;
+ghost use Rattle.std.specs.Prelude.{◌≡◌, if◌then◌else◌};
+ghost use Rattle.league_core.specs.search.PointRanges.{won_points, drawn_points};
+ghost use Rattle.score_box.specs.inside.Points.{least_of_three, most_of_three};
 
 /// The least and the most points that a fixture gives to the sides that count.
 #[derive(Clone, Copy, Debug, PartialEq, Eq)]
 pub struct MatchPoints {
     pub least: u8,
     pub most: u8,
-}
-
-impl MatchPoints {
-    /// What a cell that is not empty leaves to its two sides, if each of them counts or not.
-    pub fn of(cell: &Cell, home: bool, away: bool) -> MatchPoints
-        requires { ¬ IsEmptyCell cell.now }
-        ensures { IsPointsOf cell.now home away result }
-    {
-        let wins = cell.home_wins().is_some();
-        let draws = cell.draws().is_some();
-        let losses = cell.away_wins().is_some();
-        MatchPoints {
-            least: least_of(wins, draws, losses, home, away),
-            most: most_of(wins, draws, losses, home, away),
-        }
-    }
 }
 
 impl MatchPoints {

@@ -1,44 +1,98 @@
--- A question that is worked on from its root on, given a zone, and what comes of it.
-use Rattle.std.specs.Prelude.{◌≡◌, ℕ, ◌≤◌, ◌+◌, ◌*◌, IsTrue, List, Option, Some, None}
-use Rattle.league_core.specs.declared.sheet.Sheet.{Sheet}
+-- A question that is searched from its root on, given a zone: in which zones it can be looked, what
+-- is found there, and what comes of the search.
+use Rattle.std.specs.Prelude.{◌≡◌, ℕ, IsTrue, List, ◌++◌}
+use Rattle.std.specs.Borrow.{GName}
 use Rattle.league_core.specs.declared.question.Question.{Question}
+use Rattle.league_core.specs.declared.sheet.Sheet.{Sheet}
 use Rattle.league_core.specs.declared.zone.Literal.{Literal}
+use Rattle.league_core.specs.declared.zone.Reason.{Reason}
+use Rattle.league_core.specs.declared.zone.Test.{Test}
+use Rattle.league_core.specs.game.Questions.{IsQuestionOf}
 use Rattle.league_core.specs.game.Results.{Results}
-use Rattle.league_core.specs.search.Trees.{NodesMeet, new_count, node_count}
-use Rattle.league_core.specs.inside.Lending.{lent_count}
+use Rattle.league_core.specs.game.Seasons.{IsLeague}
 use Rattle.league_core.specs.search.GivenVerdicts.{HoldsNowhereIn, IsExampleIn}
+use Rattle.league_core.specs.search.Options.{has_finish}
+use Rattle.league_core.specs.search.Reasons.{has_reason}
+use Rattle.league_core.specs.search.Splits.{IsFairSplit}
+use Rattle.league_core.specs.search.Zones.{IsZoneFor}
+use Rattle.reason_core.specs.declared.finding.Finding.{Finding}
+use Rattle.reason_core.specs.declared.finding.Finding.TheVariants as finding
+use Rattle.score_box.specs.inside.PlayedViews.{PlayedView}
 use Rattle.tree_arena.specs.declared.example.Example.{Example}
-use Rattle.tree_arena.specs.inside.GoodNodes.{IsGoodNode}
-use Rattle.answer_rows.specs.NewTrees.{is_all_new}
-use Rattle.answer_rows.specs.declared.solved.Solved.{Solved}
-use Rattle.answer_rows.specs.declared.solved.Solved.TheVariants.{Won, Refuted, Spent}
+use Rattle.depth_search.specs.declared.kind.SearchEnd.{SearchEnd}
+use Rattle.depth_search.specs.declared.kind.SearchEnd.TheVariants.{Won, Refuted, Spent}
+use Rattle.depth_search.specs.declared.kind.ZoneLook.{ZoneLook}
+use Rattle.depth_search.specs.declared.kind.ZoneLook.TheVariants as look
+use Rattle.depth_search.specs.inside.Cases.{Cases, case_nodes}
+use Rattle.depth_search.specs.inside.ZoneTrees.{new_tree}
 use Rattle.what_if.specs.declared.task.Task.{Task}
+use Rattle.what_if.specs.Bases.{is_base_of}
 use Rattle.what_if.specs.Given.{IsFairlySpentBelow}
 
--- what a task keeps, whose root has this zone: good nodes, all of them new, counted, no leaf lent,
--- and no more nodes than the units bring
-pub record IsTask (sheet : Sheet) (season : Results) (question : Question)
-    (base : List Literal) (task : Task) : Type 0 where
-  pub nodes : NodesMeet (IsGoodNode sheet season question) base task.tree
-  pub all_new : IsTrue (is_all_new task.tree)
-  pub units_are : task.units ≡ new_count task.tree
-  pub none_lent : lent_count task.tree ≡ 0
-  pub few : node_count task.tree ≤ 1 + 2 * task.units
+-- ---- what is asked
 
--- work on a leaf found an example that is a member of the base, or brought one unit more
-abbrev pub WorksTask : Sheet → Results → Question → List Literal → Task → Task → Option Example
-    → Type 0
-WorksTask sheet season question base old new None =
-    IsTask sheet season question base new × (new.units ≡ old.units + 1)
-WorksTask sheet season question base old new (Some example) =
+-- a question given a base, the worker, its sheet and season, and those of the tables beside it
+pub record Asked : Type 0 where
+  pub worker : GName
+  pub league : PlayedView
+  pub tables : PlayedView
+  pub question : Question
+  pub base : List Literal
+
+-- by a task
+abbrev pub asked_of : Task → Asked
+asked_of task = record {
+  worker = task.solver.ghost_name;
+  league = task.solver.now;
+  tables = task.hints.now.played.now;
+  question = task.question.now;
+  base = task.base.now;
+}
+
+-- the end of a way from the root can be looked at: its zone, the base and after it the way, is one
+-- for the question and has a finish
+pub record MayLook (asked : Asked) (way : List Literal) : Type 0 where
+  pub league : IsLeague asked.league.sheet asked.league.season
+  pub sheet : asked.league.sheet ≡ asked.tables.sheet
+  pub season : asked.league.season ≡ asked.tables.season
+  pub of_sheet : IsQuestionOf asked.league.sheet asked.question
+  pub of_base : IsTrue (is_base_of asked.league.sheet asked.base)
+  pub for_question : IsZoneFor asked.league.sheet asked.question (asked.base ++ way)
+  pub has_finish : IsTrue (has_finish asked.league.sheet asked.league.season (asked.base ++ way))
+
+-- the example is a member of the base
+abbrev pub ShowsBelow : Asked → Example → Type 0
+ShowsBelow asked example =
+    IsExampleIn asked.league.sheet asked.league.season asked.question asked.base example.finish
+    example.lots
+
+-- the reason holds at the end of a way
+abbrev pub RefutesBelow : Asked → List Literal → Reason → Type 0
+RefutesBelow asked way reason =
+    IsTrue (has_reason asked.league.sheet asked.league.season asked.question (asked.base ++ way)
+    reason)
+
+-- the split is one unit of work there
+abbrev pub SplitsBelow : Asked → List Literal → Test → Type 0
+SplitsBelow asked way test =
+    IsFairSplit asked.league.sheet asked.league.season asked.question (asked.base ++ way) test
+
+-- what a worker finds, as a search takes it
+abbrev pub look_of : Finding → ZoneLook Example Reason
+look_of (finding.Won finish lots) = look.Won (record { finish = finish; lots = lots })
+look_of (finding.Refuted reason) = look.Refuted reason
+look_of (finding.Split literal) = look.Split literal.test
+
+-- ---- what comes of it
+
+-- an example that is a member of the base; or there is none; or the nodes of a tree below the base
+-- on which so many units were spent fairly
+abbrev pub IsSolvedGiven : Sheet → Results → Question → List Literal → ℕ
+    → SearchEnd Example Reason → Type 0
+IsSolvedGiven sheet season question base budget (Won example) =
     IsExampleIn sheet season question base example.finish example.lots
-
--- an example that is a member of the base; or there is none; or a tree below the base on which so
--- many units were spent fairly
-abbrev pub IsSolvedGiven : Sheet → Results → Question → List Literal → ℕ → Solved → Type 0
-IsSolvedGiven sheet season question base budget (Won finish lots) =
-    IsExampleIn sheet season question base finish lots
-IsSolvedGiven sheet season question base budget (Refuted tree) =
+IsSolvedGiven sheet season question base budget (Refuted nodes) =
     HoldsNowhereIn sheet season question base
-IsSolvedGiven sheet season question base budget (Spent tree) =
-    IsFairlySpentBelow sheet season question base budget tree
+IsSolvedGiven sheet season question base budget (Spent nodes) =
+    (cases : Cases Reason) × (case_nodes cases ≡ nodes.items)
+    × IsFairlySpentBelow sheet season question base budget (new_tree cases)

@@ -6,6 +6,6 @@ use Rattle.cert_text.proofs.places.clubs_of.Given as goal
 -- the clubs of the list are those so far and those of its rest
 abbrev pub invariant-loop-item : goal.invariant-loop-item
 invariant-loop-item l =
-    listed_clubs (items_view l.items)
+    listed_clubs l.most (items_view l.items)
     ≡ option_map (λ rest. l.clubs.items ++ rest)
-    (listed_clubs (items_view (drop l.item-index l.items)))
+    (listed_clubs l.most (items_view (drop l.item-index l.items)))

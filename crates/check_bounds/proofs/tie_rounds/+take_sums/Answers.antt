@@ -64,10 +64,10 @@ returns n c = λ rival below other within.
           ∙ ap (sure_then was)
           (sums_say sheet corners kinds later _ c.sums_in-table.result club rival
           (omega (arith, some)) all
-          (c.sums_in-table.ensures club
+          (c.sums_in-table.ensures.table club
           ∙ ap (λ value. range_from value sheet.fixtures corners)
           (near_is kept (worth_by (get_or kinds 0 _)) club own))
-          (c.sums_in-table.ensures rival
+          (c.sums_in-table.ensures.table rival
           ∙ ap (λ value. range_from value sheet.fixtures corners)
           (near_is kept (worth_by (get_or kinds 0 _)) rival there)))
       | inr outside ↦

@@ -2,4 +2,6 @@ use Rattle.depth_search.proofs.LawLemmas.{leaves_nothing}
 use Rattle.depth_search.proofs.laws.refuted_cases_leave_nothing.Goals as goal
 
 pub returns : goal.returns
-returns g c = leaves_nothing (g.K.Kind.refutes c.args._kind.now) (g.K.Kind.splits c.args._kind.now)
+returns g c =
+    let asked = g.K.Kind.subject c.args._kind.now in
+    leaves_nothing (g.K.Kind.refutes asked) (g.K.Kind.splits asked)

@@ -1,7 +1,7 @@
 use Rattle.std.proofs.Common.{ap, arith}
 use Rattle.par_check.specs.declared.places.RunRead.{RunRead}
 use Rattle.par_check.proofs.AskLemmas.{season_next}
-use Rattle.par_check.proofs.PlaceLemmas.{reads_both, reads_none, stops_then}
+use Rattle.par_check.proofs.PlaceLemmas.{reads_both, stops_then}
 use Rattle.par_check.proofs.reading.read_run.Goals as goal
 
 pub read_both-reached-requires : goal.read_both-reached-requires

@@ -1,5 +1,4 @@
-use Rattle.std.proofs.Common.{arith}
-use Rattle.par_check.proofs.PlaceLemmas.{begin_place, comes_to_stop, reads_none}
+use Rattle.par_check.proofs.PlaceLemmas.{comes_to_stop}
 use Rattle.par_check.proofs.report_check.read_whole.Goals as goal
 
 pub returns-in-Err : goal.returns-in-Err

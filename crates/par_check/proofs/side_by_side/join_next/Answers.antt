@@ -1,8 +1,4 @@
-use Rattle.std.proofs.Common.{Ok, Err, Result, arith, subst, ap}
-use Rattle.cert_check.specs.declared.stop.CheckStopAt.{CheckStopAt}
-use Rattle.par_check.specs.declared.places.Place.{Place}
-use Rattle.par_check.specs.declared.places.RunRead.{RunRead}
-use Rattle.par_check.specs.Places.{ReadsWhole}
+use Rattle.std.proofs.Common.{Ok, Err, arith}
 use Rattle.par_check.proofs.PlaceLemmas.{reads_both, stops_then, reads_here}
 use Rattle.par_check.proofs.side_by_side.join_next.Goals as goal
 

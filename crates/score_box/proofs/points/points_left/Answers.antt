@@ -40,12 +40,14 @@ loop-i-preserved c =
     let within : i < length numbers = c.loop-i-test.true in
     let in_fixtures : number < length fixtures = c.requires.in_range i 0 within in
     let in_cells : number < length cells = omega (arith, in_fixtures, c.requires.many) in
+    let gives = c.points.ensures (get_or cells number blank) c.left-left.ensures in
     let Home : Bool → Type 0 = λ b. IsPointsOf
-    (get_or cells number blank) b c.has-away.result c.of.result in
+    (get_or cells number blank) b c.has-away.result c.points.result in
     let Away : Bool → Type 0 = λ b. IsPointsOf (get_or cells number blank)
-    (has_club clubs match.home) b c.of.result in
-    let points = subst Away c.has-away.ensures (subst Home c.has-home.ensures c.of.ensures) in (
-      left_more fixtures cells numbers bits i blank c.loop-i.total c.with-total.result c.of.result
+    (has_club clubs match.home) b c.points.result in
+    let points = subst Away c.has-away.ensures (subst Home c.has-home.ensures gives) in (
+      left_more fixtures cells numbers bits i blank c.loop-i.total c.with-total.result
+          c.points.result
           within in_cells (c.requires.apart number no_match in_fixtures) c.loop-i.invariant.0 points
           c.with-total.ensures.least c.with-total.ensures.most,
       omega (arith, ints, c.with-total.ensures.least),
@@ -54,9 +56,9 @@ loop-i-preserved c =
         ints,
         c.with-total.ensures.least,
         c.with-total.ensures.most,
-        c.of.ensures.in_order,
+        gives.in_order,
       ),
-      omega (arith, ints, c.with-total.ensures.most, c.of.ensures.at_most),
+      omega (arith, ints, c.with-total.ensures.most, gives.at_most),
     )
 
 pub returns-clause-range : goal.returns-clause-range

@@ -17,16 +17,16 @@ won-requires-clause-league c =
 
 pub won-requires-clause-example : goal.won-requires-clause-example
 won-requires-clause-example c =
-    let solved = rw c.in-Won.is at c.in_ok-finish.ensures.solved in
+    let solved = rw c.in-Won.is at c.in_ok-example.ensures.solved in
     let example = rw (c.requires.sheet, c.requires.season) at solved in
     rw (c.sheet-sheet.ensures.sheet, c.season-season.ensures.season) example.example
 
 pub returns-in-Won-clause-part : goal.returns-in-Won-clause-part
 returns-in-Won-clause-part c =
-    let solved = rw c.in-Won.is at c.in_ok-finish.ensures.solved in
+    let solved = rw c.in-Won.is at c.in_ok-example.ensures.solved in
     let example = rw (c.requires.sheet, c.requires.season) at solved in
     won_given c.args.stage.now.sheet c.args.stage.now.season c.args.base.now c.args.question.now
-    c.in-Won.finish c.in-Won.lots c.won.result
+    c.in-Won.example.finish c.in-Won.example.lots c.won.result
     (played_league c.args.stage.now.sheet c.sheet-sheet.result.now c.args.stage.now.season
     c.season-season.result.now c.sheet-sheet.ensures.sheet c.season-season.ensures.season
     c.sheet-sheet.ensures.limits c.season-season.ensures.of_sheet)
@@ -35,15 +35,15 @@ returns-in-Won-clause-part c =
 
 pub returns-in-Refuted-clause-part : goal.returns-in-Refuted-clause-part
 returns-in-Refuted-clause-part c =
-    let solved = rw c.in-Refuted.is at c.in_ok-finish.ensures.solved in
+    let solved = rw c.in-Refuted.is at c.in_ok-example.ensures.solved in
     refuted_given c.args.stage.now.sheet c.args.stage.now.season c.args.base.now
     c.args.question.now c.refuted.result (rw (c.requires.sheet, c.requires.season) at solved)
     c.refuted.ensures.kind c.refuted.ensures.lines
 
 pub returns-clause-part : goal.returns-clause-part
 returns-clause-part c =
-    let solved = rw c.in-Spent.is at c.in_ok-finish.ensures.solved in
+    let solved = rw c.in-Spent.is at c.in_ok-example.ensures.solved in
     spent_given c.args.stage.now.sheet c.args.stage.now.season c.args.base.now
-    c.args.question.now c.in-Spent.tree c.spent.result c.requires.base.of_scores
+    c.args.question.now c.in-Spent.nodes.items c.spent.result c.requires.base.of_scores
     (rw (c.requires.sheet, c.requires.season, c.sheet-sheet.ensures.sheet) at solved)
     c.spent.ensures.kind c.spent.ensures.lines

@@ -7,10 +7,10 @@ solve_given-requires-clause-has_finish c =
 
 pub returns-in-Won-clause-known : goal.returns-in-Won-clause-known
 returns-in-Won-clause-known c =
-    let solved = rw c.in-Won.is at c.in_ok-finish.ensures.solved in
+    let solved = rw c.in-Won.is at c.in_ok-example.ensures.solved in
     (rw (c.requires.sheet, c.requires.season) at solved).example
 
 pub returns-in-Refuted-clause-known : goal.returns-in-Refuted-clause-known
 returns-in-Refuted-clause-known c =
-    let solved = rw c.in-Refuted.is at c.in_ok-finish.ensures.solved in
+    let solved = rw c.in-Refuted.is at c.in_ok-example.ensures.solved in
     rw (c.requires.sheet, c.requires.season) at solved

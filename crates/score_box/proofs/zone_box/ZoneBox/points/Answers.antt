@@ -3,7 +3,6 @@ use mir.Syntax.{w32}
 use mir.Val.{to_z, of_z}
 use Rattle.std.proofs.Common.{◌≡◌, List, ℕ, length, pos, ◌+ℤ◌, ◌-ℤ◌}
 use Rattle.std.proofs.Common.{true, get_or, slice_index, subst, sym, ap, ◌∙◌, arith}
-use Rattle.std.specs.List.{All}
 use Rattle.std.proofs.lemmas.Int.{ints}
 use Rattle.league_core.specs.declared.sheet.Fixture.{Fixture}
 use Rattle.league_core.specs.game.ClubSets.{clubs_in}
@@ -11,11 +10,10 @@ use Rattle.league_core.specs.search.Options.{has_finish, options_in}
 use Rattle.league_core.specs.search.PointRanges.{total_of, range_from, points_together}
 use Rattle.league_core.specs.search.PointRanges.{least_points_of, most_points_of}
 use Rattle.score_box.specs.declared.cell.Cell.{Cell}
-use Rattle.score_box.specs.inside.Cells.{IsEmptyCell}
-use Rattle.score_box.specs.inside.Boxes.{AreCellsOf}
+use Rattle.score_box.specs.inside.Boxes.{HasOptions}
 use Rattle.score_box.specs.inside.ZoneBoxViews.{ZoneBoxView}
 use Rattle.score_box.specs.inside.Points.{IsRangeOver}
-use Rattle.score_box.proofs.BoxLemmas.{cells_of_season, some_in_each}
+use Rattle.score_box.proofs.BoxLemmas.{cells_of_season}
 use Rattle.score_box.proofs.EndLemmas.{matches_of}
 use Rattle.score_box.proofs.SplitLemmas.{unplayed_few, unplayed_in_range}
 use Rattle.score_box.proofs.SetLemmas.{set_is, set_small, least_points-is, most_points-is}
@@ -32,13 +30,10 @@ points_left-left-requires-clause-many c =
 
 pub points_left-left-requires-clause-some : goal.points_left-left-requires-clause-some
 points_left-left-requires-clause-some c =
-    let now = c.args.self.now in
-    let cells = c.self.inside.cells.items in
-    let Have : ZoneBoxView → Type 0 = λ v. AreCellsOf cells (options_in v.sheet v.season v.zone) in
-    let Some_in_each : List Cell → Type 0 = λ xs. All (λ cell. ¬ IsEmptyCell cell) xs in
+    let box = c.self.inside in
+    let Some_in_each : List Cell → Type 0 = λ xs. HasOptions xs in
     subst Some_in_each (sym c.deref.ensures.value)
-    (some_in_each now.sheet now.season now.zone cells
-    (subst Have c.self.view_is c.self.invariant.options) c.requires)
+    (options_in box.sheet.now box.season.now box.zone.items, c.self.invariant.options)
 
 pub points_left-left-requires-clause-in_range : goal.points_left-left-requires-clause-in_range
 points_left-left-requires-clause-in_range c i d within =
