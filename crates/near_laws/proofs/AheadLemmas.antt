@@ -19,8 +19,8 @@ use Rattle.league_core.proofs.ClubLemmas.{has_club-some}
 use Rattle.league_core.proofs.ClubSetLemmas.{has_club-filter}
 use Rattle.league_core.proofs.StandingLemmas.{by_head_to_head_total, by_first_sums_total}
 use Rattle.league_core.proofs.plain.Filters.{filter-filter, filter-true}
-use Rattle.near_laws.specs.inside.Leads.{Lead, is_ahead_by, is_level_or_ahead_by}
-use Rattle.near_laws.specs.inside.SureLeads.{decide_by}
+use Rattle.near_laws.specs.Leads.{Lead, is_ahead_by, is_level_or_ahead_by}
+use Rattle.near_laws.specs.SureLeads.{decide_by}
 
 -- two clubs of a group stand so in each of its parts that has both
 abbrev pub InEachPart : (Ordering → Type 0) → Sheet → Results → List ℕ → ℕ → ℕ → Type 0

@@ -27,8 +27,8 @@ use Rattle.league_core.proofs.OptionLemmas.{same_score-true}
 use Rattle.league_core.proofs.PointRangeLemmas.{range_bounds}
 use Rattle.league_core.proofs.SumLemmas.{total_of-sum_over}
 use Rattle.reason_laws.proofs.MemberLemmas.{sum_in_range}
-use Rattle.near_laws.specs.inside.Fits.{range_in, can_reach, is_fit, options_where, fit_options}
-use Rattle.near_laws.specs.inside.Fits.{have_fit, leaves_points, is_able, is_surely_on}
+use Rattle.near_laws.specs.Fits.{range_in, can_reach, is_fit, options_where, fit_options}
+use Rattle.near_laws.specs.Fits.{have_fit, leaves_points, is_able, is_surely_on}
 
 -- the points of a club over some fixtures
 abbrev won : ℕ → List Fixture → List (Option Score) → ℤ

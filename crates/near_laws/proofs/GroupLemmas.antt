@@ -15,10 +15,10 @@ use Rattle.league_core.specs.game.Sums.{has_club, worth_among}
 use Rattle.league_core.proofs.ClubLemmas.{has_club-append}
 use Rattle.league_core.proofs.ClubSetLemmas.{has_club-filter, has_club-range_from}
 use Rattle.league_core.proofs.plain.Numbers.{eqb-swap}
-use Rattle.near_laws.specs.inside.Leads.{Lead, added_parts, added_leads, total_lead, worth_against}
-use Rattle.near_laws.specs.inside.Leads.{margins}
-use Rattle.near_laws.specs.inside.SureLeads.{record_worths, even_record}
-use Rattle.near_laws.specs.inside.Groups.{groups_with}
+use Rattle.near_laws.specs.Leads.{Lead, added_parts, added_leads, total_lead, worth_against}
+use Rattle.near_laws.specs.Leads.{margins}
+use Rattle.near_laws.specs.SureLeads.{record_worths, even_record}
+use Rattle.near_laws.specs.Groups.{groups_with}
 use Rattle.near_laws.proofs.LeadLemmas.{sums_of, Bounds, added_bounds}
 use Rattle.near_laws.proofs.MarginLemmas.{margins_with_one_more}
 

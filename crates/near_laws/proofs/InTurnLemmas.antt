@@ -6,7 +6,7 @@ use Rattle.std.proofs.Common.{◌∙◌, subst, inl, inr, arith}
 use Rattle.std.specs.Ordering.{is_le, ordering_then}
 use Rattle.std.proofs.lemmas.Int.{ints, by_lt_z}
 use Rattle.std.proofs.lemmas.Bool.{false≢true}
-use Rattle.near_laws.specs.inside.Leads.{by_lead, lesser, added_parts}
+use Rattle.near_laws.specs.Leads.{by_lead, lesser, added_parts}
 use Rattle.league_core.specs.game.HeadToHead.{greater_first, by_first_difference}
 use Rattle.league_core.proofs.OrderingLemmas.{greater_first-greater}
 use Rattle.league_core.proofs.plain.Orderings.{int_cmp-less}

@@ -13,9 +13,9 @@ use Rattle.league_core.specs.game.HeadToHead.{by_first_difference}
 use Rattle.league_core.specs.search.Options.{has_score, takes_option, take_options}
 use Rattle.league_core.proofs.OptionLemmas.{same_score-true}
 use Rattle.league_core.proofs.plain.Orderings.{less-is_lt}
-use Rattle.near_laws.specs.inside.Leads.{Lead, by_lead, is_ahead_by, is_level_or_ahead_by, lesser}
-use Rattle.near_laws.specs.inside.Leads.{at_most, added_parts, added_leads, numbers_at, least_of}
-use Rattle.near_laws.specs.inside.Leads.{least_lead}
+use Rattle.near_laws.specs.Leads.{Lead, by_lead, is_ahead_by, is_level_or_ahead_by, lesser}
+use Rattle.near_laws.specs.Leads.{at_most, added_parts, added_leads, numbers_at, least_of}
+use Rattle.near_laws.specs.Leads.{least_lead}
 use Rattle.near_laws.proofs.InTurnLemmas.{IsFrom, from_itself, from_trans, from_added}
 use Rattle.near_laws.proofs.InTurnLemmas.{lesser_bounds, from_ahead, from_level}
 

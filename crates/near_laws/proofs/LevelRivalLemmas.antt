@@ -20,8 +20,8 @@ use Rattle.league_core.specs.search.Options.{IsInBox}
 use Rattle.league_core.proofs.ClubLemmas.{has_club-append, range_has}
 use Rattle.league_core.proofs.ClubSetLemmas.{has_club-filter}
 use Rattle.league_core.proofs.OrderingLemmas.{greater_first-same}
-use Rattle.near_laws.specs.inside.Fits.{is_able}
-use Rattle.near_laws.specs.inside.Near.{able_rivals}
+use Rattle.near_laws.specs.Fits.{is_able}
+use Rattle.near_laws.specs.Near.{able_rivals}
 use Rattle.near_laws.proofs.FitLemmas.{able_is}
 use Rattle.near_laws.proofs.GroupLemmas.{AreOnce, once-filter, once-range}
 use Rattle.near_laws.proofs.MadeGroupLemmas.{IsMadeOf}

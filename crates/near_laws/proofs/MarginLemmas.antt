@@ -12,7 +12,7 @@ use Rattle.league_core.specs.game.Sums.{Worth, has_club, worth_to, worth_among, 
 use Rattle.league_core.specs.game.HeadToHead.{greater_first, by_first_difference}
 use Rattle.league_core.proofs.SumLemmas.{sum_over-sum}
 use Rattle.league_core.proofs.plain.Numbers.{eqb-swap}
-use Rattle.near_laws.specs.inside.Leads.{by_lead, added_parts, worth_against, margins}
+use Rattle.near_laws.specs.Leads.{by_lead, added_parts, worth_against, margins}
 use Rattle.near_laws.proofs.LeadLemmas.{sums_of}
 
 -- two numbers compare as their difference with zero

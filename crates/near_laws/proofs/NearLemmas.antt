@@ -25,13 +25,13 @@ use Rattle.league_core.proofs.TableLemmas.{ranks_before-points}
 use Rattle.reason_laws.proofs.MemberLemmas.{member_in_box, points_in_box}
 use Rattle.reason_laws.proofs.MarkedOrderLemmas.{points_not_before, before_is, after_is}
 use Rattle.reason_laws.proofs.ReasonLemmas.{holds_parts}
-use Rattle.near_laws.specs.inside.Fits.{fit_options, have_fit, is_able, is_surely_on}
-use Rattle.near_laws.specs.inside.SureLeads.{leads_surely}
-use Rattle.near_laws.specs.inside.Groups.{groups_with}
-use Rattle.near_laws.specs.inside.Near.{most_loose, is_wrong_in, has_wrong, able_rivals, is_held}
-use Rattle.near_laws.specs.inside.Near.{are_all_groups_wrong, cannot_both_have}
-use Rattle.near_laws.specs.inside.Near.{is_pressed_from_behind, is_pressed_from_ahead}
-use Rattle.near_laws.specs.inside.Near.{refutes_by_near, has_near_reason}
+use Rattle.near_laws.specs.Fits.{fit_options, have_fit, is_able, is_surely_on}
+use Rattle.near_laws.specs.SureLeads.{leads_surely}
+use Rattle.near_laws.specs.Groups.{groups_with}
+use Rattle.near_laws.specs.Near.{most_loose, is_wrong_in, has_wrong, able_rivals, is_held}
+use Rattle.near_laws.specs.Near.{are_all_groups_wrong, cannot_both_have}
+use Rattle.near_laws.specs.Near.{is_pressed_from_behind, is_pressed_from_ahead}
+use Rattle.near_laws.specs.Near.{refutes_by_near, has_near_reason}
 use Rattle.near_laws.proofs.FitLemmas.{int_le-says, fit_are_left, able_is, settled_is, of_one}
 use Rattle.near_laws.proofs.GroupLemmas.{any_member, each_group}
 use Rattle.near_laws.proofs.MadeGroupLemmas.{IsMadeOf, turned}

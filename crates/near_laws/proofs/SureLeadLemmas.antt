@@ -16,11 +16,11 @@ use Rattle.league_core.specs.game.Ahead.{rank_of, by_overall, standing_in}
 use Rattle.league_core.specs.search.Options.{IsInBox}
 use Rattle.league_core.proofs.ClubLemmas.{has_club-append}
 use Rattle.league_core.proofs.plain.Filters.{filter-true}
-use Rattle.near_laws.specs.inside.Fits.{fit_options}
-use Rattle.near_laws.specs.inside.Leads.{Lead, by_lead, at_most, worth_against, margins, least_lead}
-use Rattle.near_laws.specs.inside.SureLeads.{record_worths, first_worths, overall_worths, pair_lead}
-use Rattle.near_laws.specs.inside.SureLeads.{lead_against, first_lead, with_part, tail_lead}
-use Rattle.near_laws.specs.inside.SureLeads.{group_lead, even_record, any_group_lead, leads_surely}
+use Rattle.near_laws.specs.Fits.{fit_options}
+use Rattle.near_laws.specs.Leads.{Lead, by_lead, at_most, worth_against, margins, least_lead}
+use Rattle.near_laws.specs.SureLeads.{record_worths, first_worths, overall_worths, pair_lead}
+use Rattle.near_laws.specs.SureLeads.{lead_against, first_lead, with_part, tail_lead}
+use Rattle.near_laws.specs.SureLeads.{group_lead, even_record, any_group_lead, leads_surely}
 use Rattle.near_laws.proofs.LeadLemmas.{Bounds, HasSize, sums_of, at_most_first, at_most_second}
 use Rattle.near_laws.proofs.LeadLemmas.{least_lead_bounds, ahead_is, level_is, least_lead_size}
 use Rattle.near_laws.proofs.MarginLemmas.{by_lead-margins, sums_of-margins, compare_by_margins}

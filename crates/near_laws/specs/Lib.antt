@@ -1,2 +1,7 @@
--- All words of this crate stand in inside/: no promise of the program rests on them.
+-- Read in this order: it is the order in which the notions rest on each other.
+pub mod Fits
+pub mod Leads
+pub mod SureLeads
+pub mod Groups
+pub mod Near
 pub mod inside

@@ -1,8 +1,3 @@
--- Read in this order: it is the order in which the notions rest on each other.
-pub mod Fits
-pub mod Leads
-pub mod SureLeads
-pub mod Groups
-pub mod Near
+-- What follows from the definitions, and a league worked by hand: no promise rests on these.
 pub mod NearLaws
 pub mod NearRows

@@ -1,6 +1,6 @@
 //! The near reason: why a zone has no member though matches are open.
 //!
-//! The meaning is in `specs/inside/Near.antt`, and what it rests on in the modules before it.
+//! The meaning is in `specs/Near.antt`, and what it rests on in the modules before it.
 #![tactic(auto)]
 
 mod laws;

@@ -7,7 +7,7 @@ use Rattle.league_core.specs.declared.zone.Literal.{Literal}
 use Rattle.league_core.specs.game.Results.{Results}
 use Rattle.league_core.specs.game.Questions.{holds_at}
 use Rattle.league_core.specs.search.Zones.{IsMember}
-use Rattle.near_laws.specs.inside.Near.{has_near_reason}
+use Rattle.near_laws.specs.Near.{has_near_reason}
 
 -- if the near reason holds, the question holds at no member of the zone, whatever the lots
 abbrev pub NearReasonsAreSound : Type 0

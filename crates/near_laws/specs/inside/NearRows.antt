@@ -16,7 +16,7 @@ use Rattle.league_core.specs.game.Questions.{full_question}
 use Rattle.league_core.specs.search.Options.{score_of, has_finish}
 use Rattle.league_core.specs.search.PointRanges.{least_points_of, most_points_of}
 use Rattle.league_core.specs.search.Reasons.{has_reason}
-use Rattle.near_laws.specs.inside.Near.{has_near_reason}
+use Rattle.near_laws.specs.Near.{has_near_reason}
 
 -- home against away; C is 0, X 1, Y 2 and Z 3
 abbrev vs : ℕ → ℕ → Fixture

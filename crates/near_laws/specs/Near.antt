@@ -13,9 +13,9 @@ use Rattle.league_core.specs.search.Zones.{rivals_of, marked_before, marked_afte
 use Rattle.league_core.specs.search.Options.{has_finish}
 use Rattle.league_core.specs.search.PointRanges.{least_points_of, most_points_of, own_most}
 use Rattle.league_core.specs.search.PointRanges.{own_least}
-use Rattle.near_laws.specs.inside.Fits.{fit_options, have_fit, is_able, is_surely_on}
-use Rattle.near_laws.specs.inside.SureLeads.{leads_surely}
-use Rattle.near_laws.specs.inside.Groups.{groups_with}
+use Rattle.near_laws.specs.Fits.{fit_options, have_fit, is_able, is_surely_on}
+use Rattle.near_laws.specs.SureLeads.{leads_surely}
+use Rattle.near_laws.specs.Groups.{groups_with}
 
 -- as many clubs may join a group or stay out, at most: so that there are at most 256 groups
 abbrev pub most_loose : ℕ

@@ -9,8 +9,8 @@ use Rattle.league_core.specs.declared.season.Score.{Score}
 use Rattle.league_core.specs.game.Sums.{Worth, match_points, goal_difference, goals, away_goals}
 use Rattle.league_core.specs.game.Sums.{wins, away_wins, worth_to, worth_among}
 use Rattle.league_core.specs.game.Ahead.{rank_of}
-use Rattle.near_laws.specs.inside.Leads.{Lead, is_ahead_by, is_level_or_ahead_by, at_most}
-use Rattle.near_laws.specs.inside.Leads.{least_lead, total_lead, worth_against, margins}
+use Rattle.near_laws.specs.Leads.{Lead, is_ahead_by, is_level_or_ahead_by, at_most}
+use Rattle.near_laws.specs.Leads.{least_lead, total_lead, worth_against, margins}
 
 -- the parts of a head-to-head record
 abbrev pub record_worths : List Worth
