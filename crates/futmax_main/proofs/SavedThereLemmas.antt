@@ -29,7 +29,7 @@ use Rattle.cert_check.proofs.AnswerLemmas.{refutation_fits}
 use Rattle.answer_rows.specs.Parts.{IsMadeOf}
 use Rattle.answer_rows.specs.AskedQuestions.{questions_of}
 use Rattle.answer_rows.proofs.AskedLemmas.{all_are_asked}
-use Rattle.decision_laws.proofs.DecidedLemmas.{HasExampleInBox, RefutesBelow, zone_is_decided}
+use Rattle.verdict_run.proofs.DecidedLemmas.{HasExampleInBox, RefutesBelow, zone_is_decided}
 use Rattle.pool_save.specs.SavedTexts.{IsSavedNode, IsSavedTree, end_fields}
 use Rattle.pool_save.specs.SavedItems.{IsItemSaved, IsSavedOf, saved_item_text}
 

@@ -8,3 +8,7 @@ pub mod Kept
 pub mod SeasonReports
 pub mod WorkLaws
 pub mod SamplePools
+-- What holds of questions, answers and tables, whatever the program does.
+pub mod Completeness
+pub mod SeasonAnswers
+pub mod TableLaws

@@ -1,7 +1,7 @@
 //! The laws of completeness: functions that do nothing, each with laws as its contract.
 
-ghost use Rattle.decision_laws.specs.inside.Completeness.{SomeSplitIsDue, QuestionsAreDecided};
-ghost use Rattle.decision_laws.specs.inside.Completeness.{QuestionsAreRefuted, ExamplesCanBeMet};
+ghost use Rattle.verdict_run.specs.inside.Completeness.{SomeSplitIsDue, QuestionsAreDecided};
+ghost use Rattle.verdict_run.specs.inside.Completeness.{QuestionsAreRefuted, ExamplesCanBeMet};
 
 /// If a zone has a finish and is not single, some test of it is proper and due.
 pub fn some_split_is_due()

@@ -1,7 +1,7 @@
 //! The laws of answers: functions that do nothing, each with a law as its contract.
 
-ghost use Rattle.decision_laws.specs.inside.SeasonAnswers.{ItemsWithoutProofs};
-ghost use Rattle.decision_laws.specs.inside.SeasonAnswers.{EachSeasonHasAnAnswer};
+ghost use Rattle.verdict_run.specs.inside.SeasonAnswers.{ItemsWithoutProofs};
+ghost use Rattle.verdict_run.specs.inside.SeasonAnswers.{EachSeasonHasAnAnswer};
 
 /// Each season has an answer, with proofs and without.
 pub fn each_season_has_an_answer()

@@ -1,5 +1,5 @@
-use Rattle.decision_laws.proofs.DueLemmas.{due_test}
-use Rattle.decision_laws.proofs.completeness.some_split_is_due.Goals as goal
+use Rattle.verdict_run.proofs.DueLemmas.{due_test}
+use Rattle.verdict_run.proofs.completeness.some_split_is_due.Goals as goal
 
 pub returns : goal.returns
 returns c = λ sheet season question zone of_sheet some several.

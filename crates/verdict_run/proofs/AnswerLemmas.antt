@@ -19,9 +19,9 @@ use Rattle.answer_rows.specs.Items.{AnswerRow, IsItemShown, answer_rows}
 use Rattle.answer_rows.specs.inside.ItemRanges.{lines_shown}
 use Rattle.answer_rows.proofs.PartLemmas.{refutation_is_true}
 use Rattle.answer_rows.proofs.RowLemmas.{IsRowOf, rows_asked}
-use Rattle.decision_laws.specs.inside.Completeness.{HasRefutation}
-use Rattle.decision_laws.proofs.DecidedLemmas.{question_decided}
-use Rattle.decision_laws.specs.inside.SeasonAnswers.{AnswerItem, IsKnownItem, AreItemsOf}
+use Rattle.verdict_run.specs.inside.Completeness.{HasRefutation}
+use Rattle.verdict_run.proofs.DecidedLemmas.{question_decided}
+use Rattle.verdict_run.specs.inside.SeasonAnswers.{AnswerItem, IsKnownItem, AreItemsOf}
 
 -- ---- without proofs
 

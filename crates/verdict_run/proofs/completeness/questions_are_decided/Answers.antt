@@ -1,5 +1,5 @@
-use Rattle.decision_laws.proofs.DecidedLemmas.{question_decided, question_refuted}
-use Rattle.decision_laws.proofs.completeness.questions_are_decided.Goals as goal
+use Rattle.verdict_run.proofs.DecidedLemmas.{question_decided, question_refuted}
+use Rattle.verdict_run.proofs.completeness.questions_are_decided.Goals as goal
 
 pub returns-clause-decided : goal.returns-clause-decided
 returns-clause-decided c = question_decided

@@ -39,9 +39,9 @@ use Rattle.depth_search.specs.inside.Decided.{DecidedKind}
 use Rattle.depth_search.proofs.DecidedLemmas.{each_zone_decided}
 use Rattle.branch_rules.specs.inside.Found.{IsProposedInVain}
 use Rattle.branch_rules.proofs.FoundLemmas.{has_several}
-use Rattle.decision_laws.specs.inside.Completeness.{CanBeMet, at_once, in_a_half, HasRefutation}
-use Rattle.decision_laws.proofs.BoxPrefixLemmas.{box_prefix}
-use Rattle.decision_laws.proofs.DueLemmas.{IsDueTest, due_test}
+use Rattle.verdict_run.specs.inside.Completeness.{CanBeMet, at_once, in_a_half, HasRefutation}
+use Rattle.verdict_run.proofs.BoxPrefixLemmas.{box_prefix}
+use Rattle.verdict_run.proofs.DueLemmas.{IsDueTest, due_test}
 
 -- ---- refutations
 

@@ -1,6 +1,6 @@
 //! The law of tables: a function that does nothing.
 
-ghost use Rattle.decision_laws.specs.inside.TableLaws.{EachSeasonHasATable};
+ghost use Rattle.verdict_run.specs.inside.TableLaws.{EachSeasonHasATable};
 
 /// Each season has a table, whatever lots are drawn.
 pub fn each_season_has_a_table()
