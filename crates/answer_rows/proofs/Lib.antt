@@ -2,6 +2,7 @@
 -- what stands for a question; then rows that go out one after the other, proof lines, and the
 -- answers piece by piece.
 pub mod AskedLemmas
+pub mod RowItemLemmas
 pub mod RowLemmas
 pub mod NewTreeLemmas
 pub mod ExampleLineLemmas

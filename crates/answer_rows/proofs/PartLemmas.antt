@@ -1,6 +1,6 @@
 -- What stands for one question in an answer, and the lines of two of them.
-use Rattle.std.proofs.Common.{◌≡◌, ℕ, ◌<◌, true, List, [], ◌∷◌, length, Vec, Global, IsTrue, refl}
-use Rattle.std.proofs.Common.{ap, ◌∙◌, Result, Ok, Err}
+use Rattle.std.proofs.Common.{◌≡◌, ℕ, ◌<◌, Bool, true, List, [], ◌∷◌, length, Vec, Global, IsTrue}
+use Rattle.std.proofs.Common.{refl, ap, ◌∙◌, Result, Ok, Err}
 use Rattle.std.specs.Prelude.{All, IfOk}
 use Rattle.std.specs.List.{list_all}
 use Rattle.std.proofs.lemmas.Bool.{and_from, and_parts}
@@ -78,22 +78,32 @@ refutation_is_true sheet season question tree club_in shown =
 
 -- ---- lines of two questions
 
--- lines in range, whichever they are
+module _ {L : Type 0} (passes : L → Bool) where
+  -- lines that pass a test, whichever they are
+  pub passing_by : (word : Word) (first second : List L) → list_all passes first ≡ true
+      → list_all passes second ≡ true → list_all passes (proof_by word first second) ≡ true
+  passing_by Clinched first second one two = two
+  passing_by Lost first second one two = one
+  passing_by Possible first second one two =
+      list_all-append passes first second
+      ∙ and_from (list_all passes first) (list_all passes second) one two
+  passing_by Unsettled first second one two =
+      list_all-append passes first second
+      ∙ and_from (list_all passes first) (list_all passes second) one two
+
+  -- lines of which each passes it
+  pub all_passing : (lines : List L) → list_all passes lines ≡ true
+      → All (λ line. IsTrue (passes line)) lines
+  all_passing [] all = All-nil (λ line. passes line ≡ true)
+  all_passing (line ∷ lines) all =
+      let parts = and_parts (passes line) (list_all passes lines) all in
+      All-cons (λ l. passes l ≡ true) line lines parts.0 (all_passing lines parts.1)
+
+-- so it is with the ranges of their forms
 pub range_by : (word : Word) (first second : List ProofLine) → list_all is_in_range first ≡ true
     → list_all is_in_range second ≡ true → list_all is_in_range (proof_by word first second) ≡ true
-range_by Clinched first second one two = two
-range_by Lost first second one two = one
-range_by Possible first second one two =
-    list_all-append is_in_range first second
-    ∙ and_from (list_all is_in_range first) (list_all is_in_range second) one two
-range_by Unsettled first second one two =
-    list_all-append is_in_range first second
-    ∙ and_from (list_all is_in_range first) (list_all is_in_range second) one two
+range_by word first second one two = passing_by is_in_range word first second one two
 
--- lines of which each is in range
 pub all_lines : (lines : List ProofLine) → list_all is_in_range lines ≡ true
     → All (λ line. IsTrue (is_in_range line)) lines
-all_lines [] all = All-nil (λ line. is_in_range line ≡ true)
-all_lines (line ∷ lines) all =
-    let parts = and_parts (is_in_range line) (list_all is_in_range lines) all in
-    All-cons (λ l. is_in_range l ≡ true) line lines parts.0 (all_lines lines parts.1)
+all_lines lines all = all_passing is_in_range lines all

@@ -34,10 +34,10 @@ ShowsPart sheet season question true lines = ShowsSpentNow sheet season question
 ShowsPart sheet season question false lines = IsExampleInLines sheet season question lines
 
 -- the part of `Inside` and then that of `Outside`, each spent or not, by what stands for a question
-abbrev pub ShowsBothParts : (Question → Bool → List ProofLine → Type 0) → Bool → Bool → ℕ → ℕ
-    → List ProofLine → Type 0
-ShowsBothParts Shows is_inside_spent is_outside_spent line club lines =
-    (inside : List ProofLine) × (outside : List ProofLine) × (lines ≡ inside ++ outside)
+abbrev pub ShowsBothParts : {L : Type 0} → (Question → Bool → List L → Type 0) → Bool → Bool → ℕ
+    → ℕ → List L → Type 0
+ShowsBothParts {L} Shows is_inside_spent is_outside_spent line club lines =
+    (inside : List L) × (outside : List L) × (lines ≡ inside ++ outside)
     × Shows (full_question club line Inside) is_inside_spent inside
     × Shows (full_question club line Outside) is_outside_spent outside
 

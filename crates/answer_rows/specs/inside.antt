@@ -4,5 +4,6 @@ pub mod AnswerParts
 pub mod Outputs
 pub mod Places
 pub mod ItemRanges
+pub mod RowItems
 pub mod Verdicts
 pub mod SpentLines

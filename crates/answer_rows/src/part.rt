@@ -114,7 +114,8 @@ pub fn joined(word: Word, inside: Part, outside: Part) -> Result<Vec<ProofLine>,
     }
 }
 
-fn append(mut lines: Vec<ProofLine>, more: Vec<ProofLine>) -> Result<Vec<ProofLine>, OutOfMemory>
+/// Some lines, and then others.
+pub fn append<L: Drop>(mut lines: Vec<L>, more: Vec<L>) -> Result<Vec<L>, OutOfMemory>
     ensures { IfOk result (λ all. all.items ≡ lines.items ++ more.items) }
 {
     for line in more {

@@ -80,7 +80,8 @@ fn put_item<K: Sink>(
     }
 }
 
-fn put_verdict<K: Sink>(
+/// Writes the row of a word about a line and a club of this name.
+pub fn put_verdict<K: Sink>(
     alloc: Global,
     line: u8,
     name: &str,

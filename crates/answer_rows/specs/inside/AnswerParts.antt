@@ -44,7 +44,7 @@ word_by Spent Won = Unsettled
 word_by Spent Spent = Unsettled
 
 -- the lines after the word, out of those of `Inside` and of `Outside`
-abbrev pub proof_by : Word → List ProofLine → List ProofLine → List ProofLine
+abbrev pub proof_by : {L : Type 0} → Word → List L → List L → List L
 proof_by Clinched inside outside = outside
 proof_by Lost inside outside = inside
 proof_by Possible inside outside = inside ++ outside

@@ -1,14 +1,13 @@
 -- The lines of verdicts are in the ranges of their forms; and which of them are shown.
 use Rattle.std.specs.Prelude.{◌<◌, Bool, true, false, IsTrue, List, [], All, length}
 use Rattle.league_core.specs.declared.sheet.Sheet.{Sheet}
-use Rattle.cert_text.specs.declared.proof_line.ProofLine.{ProofLine}
 use Rattle.cert_text.specs.Ranges.{is_in_range}
 use Rattle.answer_rows.specs.declared.word.Word.{Word}
 use Rattle.answer_rows.specs.declared.word.Word.TheVariants.{Clinched, Lost, Possible, Unsettled}
 use Rattle.answer_rows.specs.declared.word.Verdict.{Verdict}
 
 -- the lines after a word, whether proofs are asked for or not, out of all that there are
-abbrev pub lines_shown : Bool → Word → List ProofLine → List ProofLine
+abbrev pub lines_shown : {L : Type 0} → Bool → Word → List L → List L
 lines_shown true word proof = proof
 lines_shown false Clinched proof = []
 lines_shown false Lost proof = []
