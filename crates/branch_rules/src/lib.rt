@@ -22,5 +22,6 @@ mod worker;
 
 pub use choice::choose;
 pub use piece_work::{work, work_with};
-pub use search::find_with;
-pub use worker::ZoneSolver;
+pub use reasons::first_reason;
+pub use search::{find_with, proposed};
+pub use worker::{ZoneSolver, move_to};

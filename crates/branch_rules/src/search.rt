@@ -3,14 +3,15 @@
 ghost use Rattle.std.specs.Prelude.{IfOk, IsTrue};
 ghost use Rattle.league_core.specs.game.Questions.{IsQuestionOf};
 ghost use Rattle.score_box.specs.inside.ZoneBoxViews.{HasFinish};
-ghost use Rattle.branch_rules.specs.inside.Found.{IsFoundIn, IsProposedInVain, is_proposed_example};
+ghost use Rattle.branch_rules.specs.inside.Found.{IsFoundIn, IsProposedExample, IsProposedInVain};
+ghost use Rattle.branch_rules.specs.inside.Found.{is_proposed_example};
 
 use crate::choice::choose;
 use crate::reasons::first_reason;
 use example_finish::{is_example, propose};
 use final_rank::lots_for;
 use flow_bound::FlowKeep;
-use league_core::{OutOfMemory, Question};
+use league_core::{Finish, Lots, OutOfMemory, Question};
 use reason_core::Finding;
 use score_box::ZoneBox;
 use std::alloc::Global;
@@ -30,26 +31,31 @@ pub fn find_with(
         (IsFoundIn zone_box.now.sheet zone_box.now.season question.now zone_box.now.zone) }
 {
     if is_example(zone_box, question) {
-        won(alloc, zone_box, question)
+        let (finish, lots) = proposed(alloc, zone_box, question)?;
+        Ok(Finding::Won(finish, lots))
     } else {
         reason_or_split(alloc, zone_box, question, keep)
     }
 }
 
-// The proposed finish, with the lots that favour the claim.
-fn won(alloc: Global, zone_box: &ZoneBox, question: &Question) -> Result<Finding, OutOfMemory>
+/// The proposed finish, with the lots that favour the claim, where it is an example.
+pub fn proposed(
+    alloc: Global,
+    zone_box: &ZoneBox,
+    question: &Question,
+) -> Result<(Finish, Lots), OutOfMemory>
     requires has_finish { HasFinish zone_box.now }
     requires of_sheet { IsQuestionOf zone_box.now.sheet question.now }
     requires example { IsTrue (is_proposed_example
         zone_box.now.sheet zone_box.now.season question.now zone_box.now.zone) }
-    ensures { IfOk result
-        (IsFoundIn zone_box.now.sheet zone_box.now.season question.now zone_box.now.zone) }
+    ensures { IfOk result (λ pair. IsProposedExample zone_box.now.sheet zone_box.now.season
+        question.now zone_box.now.zone pair.0 pair.1) }
 {
     let _season = zone_box.season();
     let finish = propose(alloc, zone_box, question)?;
     let clubs = zone_box.sheet().clubs.len() as u8;
     let lots = lots_for(alloc, clubs, question.club, question.claim)?;
-    Ok(Finding::Won(finish, lots))
+    Ok((finish, lots))
 }
 
 // The first reason if one holds, otherwise a split.

@@ -69,8 +69,8 @@ impl<'a> Solver for ZoneSolver<'a> {
     }
 }
 
-// Moves the box to another zone.
-fn move_to(zone_box: &mut ZoneBox, zone: &[Literal]) -> Result<(), OutOfMemory>
+/// Moves the box to another zone: back to the prefix that both share, and on from there.
+pub fn move_to(zone_box: &mut ZoneBox, zone: &[Literal]) -> Result<(), OutOfMemory>
     requires { IsTrue (is_zone_of zone_box.old.sheet zone.now) }
     ensures ok { OnOk result (zone_box.new ≡ record zone_box.old { zone = zone.now }) }
     ensures sheet { zone_box.new.sheet ≡ zone_box.old.sheet }

@@ -2,8 +2,8 @@ use Rattle.std.proofs.Common.{sym, ◌∙◌}
 use Rattle.branch_rules.proofs.FoundLemmas.{proposed_in_vain}
 use Rattle.branch_rules.proofs.search.find_with.Goals as goal
 
-pub won-requires-clause-example : goal.won-requires-clause-example
-won-requires-clause-example c = sym c.is_example.ensures ∙ c.if-is_example.true
+pub proposed-requires-clause-example : goal.proposed-requires-clause-example
+proposed-requires-clause-example c = sym c.is_example.ensures ∙ c.if-is_example.true
 
 pub reason_or_split-requires-clause-in_vain : goal.reason_or_split-requires-clause-in_vain
 reason_or_split-requires-clause-in_vain c =

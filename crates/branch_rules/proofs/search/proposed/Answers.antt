@@ -3,7 +3,7 @@ use Rattle.league_core.specs.declared.sheet.Sheet.{Sheet}
 use Rattle.league_core.specs.game.Seasons.{IsSeasonOf}
 use Rattle.league_core.specs.inside.LotsFor.{lots_for_claim}
 use Rattle.branch_rules.proofs.FoundLemmas.{proposed_example}
-use Rattle.branch_rules.proofs.search.won.Goals as goal
+use Rattle.branch_rules.proofs.search.proposed.Goals as goal
 
 pub lots_for-requires : goal.lots_for-requires
 lots_for-requires c =
