@@ -1,12 +1,7 @@
 -- The verdicts given a base, as an answer is put together; and items given nothing.
-use Rattle.std.proofs.Common.{◌≡◌, ℕ, ◌+◌, ◌<◌, Bool, true, false, List, [], ◌∷◌, ◌++◌, length, map}
-use Rattle.std.proofs.Common.{take, get_or, refl, sym, ap, ◌∙◌, subst, arith, append_assoc}
-use Rattle.std.proofs.Common.{append-nil}
+use Rattle.std.proofs.Common.{◌≡◌, ℕ, Bool, true, false, List, [], refl}
 use Rattle.std.specs.Prelude.{◌↔◌}
-use Rattle.std.specs.List.{flat_map}
-use Rattle.std.proofs.lemmas.List.{map-append, take_more, flat_map_more}
-use Rattle.std.proofs.lemmas.List.Elements.{All-nil, All-cons, All-append, All-weaker}
-use Rattle.std.proofs.lemmas.List.FromFn.{map-range_with_len_more}
+use Rattle.std.proofs.lemmas.List.Elements.{All-weaker}
 use Rattle.league_core.specs.declared.sheet.Sheet.{Sheet}
 use Rattle.league_core.specs.declared.question.Claim.TheVariants.{Inside, Outside}
 use Rattle.league_core.specs.declared.question.Question.{Question}
@@ -20,89 +15,21 @@ use Rattle.cert_text.specs.TreeLines.{IsFairSpentTree}
 use Rattle.answer_rows.specs.declared.word.Word.{Word}
 use Rattle.answer_rows.specs.declared.word.Word.TheVariants.{Clinched, Lost, Possible, Unsettled}
 use Rattle.answer_rows.specs.declared.word.Verdict.{Verdict}
-use Rattle.answer_rows.specs.Items.{AnswerRow, answer_row, answer_rows, answer_rows_of}
+use Rattle.answer_rows.specs.Items.{answer_row, answer_rows}
 use Rattle.answer_rows.specs.Items.{ShowsPart, ShowsBothParts, IsItemShown}
 use Rattle.answer_rows.specs.NewTrees.{is_all_new}
 use Rattle.answer_rows.specs.inside.ItemRanges.{IsInRange, AreInRange}
+use Rattle.answer_rows.specs.inside.RowItems.{AreAbout}
 use Rattle.what_if.specs.Given.{IsFairlySpentBelow, ShowsPartGiven, IsItemGiven, IsShownGiven}
 use Rattle.what_if.specs.Given.{AreVerdictsGiven}
-use Rattle.what_if.specs.inside.GivenParts.{IsRightGiven, AreRightFor, AddsVerdicts}
-use Rattle.what_if.specs.inside.GivenParts.{AreRightForLines}
+use Rattle.what_if.specs.inside.GivenParts.{IsRightGiven}
 
 -- ---- verdicts, one after another
 
--- verdicts for some rows and then for others
-pub right_joined : (sheet : Sheet) (season : Results) (zone : List Literal)
-    (rows others : List AnswerRow) (verdicts more : List Verdict)
-    → AreRightFor sheet season zone rows verdicts → AreRightFor sheet season zone others more
-    → AreRightFor sheet season zone (rows ++ others) (verdicts ++ more)
-right_joined sheet season zone rows others verdicts more first second = record {
-  about = map-append answer_row verdicts more
-      ∙ ap (λ xs. xs ++ map answer_row more) first.about
-      ∙ ap (λ xs. rows ++ xs) second.about;
-  each = All-append (IsRightGiven sheet season zone) verdicts more first.each second.each;
-}
-
-pub none_right : (sheet : Sheet) (season : Results) (zone : List Literal)
-    → AreRightFor sheet season zone [] []
-none_right sheet season zone =
-    record { about = refl; each = All-nil (IsRightGiven sheet season zone) }
-
--- nothing is added yet
-pub adds_nothing : (sheet : Sheet) (season : Results) (zone : List Literal) (line : ℕ)
-    (old : List Verdict) → AddsVerdicts sheet season zone line 0 old old
-adds_nothing sheet season zone line old =
-    record { more = []; after = sym (append-nil old); right = none_right sheet season zone }
-
--- one club more
-pub adds_verdict : (sheet : Sheet) (season : Results) (zone : List Literal) (line club : ℕ)
-    (verdict : Verdict) (old between new : List Verdict)
-    → AddsVerdicts sheet season zone line club old between
-    → answer_row verdict ≡ record { line = line; club = club }
-    → IsRightGiven sheet season zone verdict → new ≡ between ++ verdict ∷ []
-    → AddsVerdicts sheet season zone line (club + 1) old new
-adds_verdict sheet season zone line club verdict old between new adds about right after =
-    let row : AnswerRow = record { line = line; club = club } in
-    let one : AreRightFor sheet season zone (row ∷ []) (verdict ∷ []) = record {
-      about = ap (λ (r : AnswerRow). r ∷ []) about;
-      each = All-cons (IsRightGiven sheet season zone) verdict [] right
-          (All-nil (IsRightGiven sheet season zone));
-    } in
-    record {
-      more = adds.more ++ verdict ∷ [];
-      after = after ∙ ap (λ xs. xs ++ verdict ∷ []) adds.after
-          ∙ append_assoc old adds.more (verdict ∷ []);
-      right = subst (λ (rows : List AnswerRow).
-          AreRightFor sheet season zone rows (adds.more ++ verdict ∷ []))
-          (sym (map-range_with_len_more (λ c. record { line = line; club = c }) 0 club club
-          (omega arith)))
-          (right_joined sheet season zone (answer_rows_of club line) (row ∷ []) adds.more
-          (verdict ∷ []) adds.right one);
-    }
-
--- one line more
-pub line_added : (sheet : Sheet) (season : Results) (zone : List Literal) (lines : List ℕ)
-    (i d : ℕ) (old new : List Verdict) → i < length lines
-    → AreRightForLines sheet season zone (take i lines) old
-    → AddsVerdicts sheet season zone (get_or lines i d) (length sheet.clubs) old new
-    → AreRightForLines sheet season zone (take (i + 1) lines) new
-line_added sheet season zone lines i d old new inside so_far adds =
-    let rows_of : ℕ → List AnswerRow = λ line. answer_rows_of (length sheet.clubs) line in
-    let line = get_or lines i d in
-    let before = flat_map rows_of (take i lines) in
-    let are : before ++ rows_of line
-    ≡ flat_map rows_of (take (i + 1) lines) =
-    flat_map_more rows_of [] (take i lines) line
-    ∙ ap (λ ls. flat_map rows_of ls) (sym (take_more lines i d inside)) in
-    let P : List AnswerRow → Type 0 = λ rows. AreRightFor sheet season zone rows new in
-    let Q : List Verdict → Type 0 =
-    λ found. AreRightFor sheet season zone (before ++ rows_of line) found in
-    subst P are (subst Q (sym adds.after)
-    (right_joined sheet season zone before (rows_of line) old adds.more so_far adds.right))
-
 -- all rows are there
 pub right_verdicts : (sheet : Sheet) (season : Results) (zone : List Literal)
-    (verdicts : List Verdict) → AreRightFor sheet season zone (answer_rows sheet) verdicts
+    (verdicts : List Verdict)
+    → AreAbout answer_row (IsRightGiven sheet season zone) (answer_rows sheet) verdicts
     → AreVerdictsGiven sheet season zone verdicts × AreInRange sheet verdicts
 right_verdicts sheet season zone verdicts right = (
   record {

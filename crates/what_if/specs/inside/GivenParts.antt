@@ -1,5 +1,5 @@
 -- What stands for one question given a base, and the verdicts that an answer is put together from.
-use Rattle.std.specs.Prelude.{◌≡◌, ◌<◌, ℕ, true, false, IsTrue, List, [], ◌++◌, map, All, length}
+use Rattle.std.specs.Prelude.{◌≡◌, ◌<◌, ℕ, true, false, IsTrue, List, [], length}
 use Rattle.std.specs.Prelude.{None, slice_index_or}
 use Rattle.std.specs.List.{list_all, flat_map}
 use Rattle.league_core.specs.declared.sheet.Sheet.{Sheet}
@@ -11,8 +11,9 @@ use Rattle.league_core.specs.search.Options.{has_finish}
 use Rattle.cert_text.specs.declared.proof_line.ProofLine.{ProofLine}
 use Rattle.cert_text.specs.Ranges.{is_in_range}
 use Rattle.answer_rows.specs.declared.word.Verdict.{Verdict}
-use Rattle.answer_rows.specs.Items.{AnswerRow, answer_row, answer_rows_of}
+use Rattle.answer_rows.specs.Items.{answer_row, answer_rows_of}
 use Rattle.answer_rows.specs.inside.ItemRanges.{IsInRange}
+use Rattle.answer_rows.specs.inside.RowItems.{AddsAbout, AreAbout}
 use Rattle.answer_rows.specs.declared.part.Part.{Part}
 use Rattle.answer_rows.specs.declared.part.PartKind.{PartKind}
 use Rattle.answer_rows.specs.declared.part.PartKind.TheVariants.{Won, Refuted, Spent}
@@ -51,20 +52,14 @@ pub record IsRightGiven (sheet : Sheet) (season : Results) (zone : List Literal)
   pub shown : IsShownGiven sheet season zone verdict
   pub in_range : IsInRange sheet verdict
 
--- such verdicts for these rows, in their order
-pub record AreRightFor (sheet : Sheet) (season : Results) (zone : List Literal)
-    (rows : List AnswerRow) (verdicts : List Verdict) : Type 0 where
-  pub about : map answer_row verdicts ≡ rows
-  pub each : All (IsRightGiven sheet season zone) verdicts
-
 -- such verdicts about the first lines
 abbrev pub AreRightForLines : Sheet → Results → List Literal → List ℕ → List Verdict → Type 0
 AreRightForLines sheet season zone lines verdicts =
-    AreRightFor sheet season zone (flat_map (answer_rows_of (length sheet.clubs)) lines) verdicts
+    AreAbout answer_row (IsRightGiven sheet season zone)
+    (flat_map (answer_rows_of (length sheet.clubs)) lines) verdicts
 
--- what is added: the verdicts about the first clubs and a line
-pub record AddsVerdicts (sheet : Sheet) (season : Results) (zone : List Literal)
-    (line clubs : ℕ) (old new : List Verdict) : Type 0 where
-  pub more : List Verdict
-  pub after : new ≡ old ++ more
-  pub right : AreRightFor sheet season zone (answer_rows_of clubs line) more
+-- what is added: such verdicts about the first clubs and a line
+abbrev pub AddsVerdicts : Sheet → Results → List Literal → ℕ → ℕ → List Verdict → List Verdict
+    → Type 0
+AddsVerdicts sheet season zone line clubs old new =
+    AddsAbout answer_row (IsRightGiven sheet season zone) line clubs old new

@@ -1,10 +1,13 @@
 use Rattle.std.proofs.Common.{◌∙◌, arith}
-use Rattle.what_if.proofs.GivenLemmas.{line_added}
+use Rattle.answer_rows.specs.Items.{answer_row}
+use Rattle.answer_rows.proofs.RowItemLemmas.{line_added}
+use Rattle.what_if.specs.inside.GivenParts.{IsRightGiven}
 use Rattle.what_if.proofs.given.verdicts_by.Goals as goal
 
 pub loop-line-preserved : goal.loop-line-preserved
 loop-line-preserved c = (
-  line_added c.args.stage.now.sheet c.args.stage.now.season c.args.base.now
+  line_added answer_row
+      (IsRightGiven c.args.stage.now.sheet c.args.stage.now.season c.args.base.now) _
       c.as_slice-line-items.result.now c.loop-line.line-index _ c.loop-line.found.items
       c.push_line.new.found.items (omega arith) c.loop-line.invariant.0
       c.in_ok-push_line.ensures.adds,
