@@ -135,14 +135,19 @@ def named_by_laws(modules):
             for word in free_words(modules, here, name)} - {None}
 
 
-def believed(root, modules):
-    """The definitions that the promises rest on, each as its crate, its module and its name."""
-    found, due = set(), promised(root, modules)
+def rests_of(modules, due):
+    """These definitions and all that they rest on."""
+    found = set()
     while due:
         found |= due
         due = {meaning(modules, it[:2], modules[it[:2]], word)
                for it in due for word in free_words(modules, it[:2], it[2])} - found - {None}
     return found
+
+
+def believed(root, modules):
+    """The definitions that the promises rest on, each as its crate, its module and its name."""
+    return rests_of(modules, promised(root, modules))
 
 
 def lines_of(modules, it):

@@ -1,0 +1,3 @@
+-- What the functions promise each other and the crates above: no promise of the program rests on
+-- these words.
+pub mod WideLaws
