@@ -1,0 +1,24 @@
+use Rattle.std.proofs.Common.{◌||◌, sym, ap, ◌∙◌}
+use Rattle.near_laws.specs.Near.{are_all_groups_wrong}
+use Rattle.near_bound.proofs.AbleRivalLemmas.{no_fit_is}
+use Rattle.near_bound.proofs.both.cannot_with_rivals.Goals as goal
+
+pub returns-then-has_no_fit : goal.returns-then-has_no_fit
+returns-then-has_no_fit c = λ zone is own.
+    let tie = c.args.tie.now in
+    c.if-has_no_fit.true
+    ∙ ap (λ b. b || are_all_groups_wrong tie.left.now.sheet.now tie.left.now.season.now zone
+    tie.points c.args.club c.args.rival)
+    (sym c.if-has_no_fit.true ∙ c.has_no_fit.ensures zone is
+    ∙ no_fit_is tie c.able_rivals-able.result c.held_among-held.result c.args.club c.args.rival zone
+    c.able_rivals-able.ensures.able c.held_among-held.ensures.held is)
+
+pub returns-else-has_no_fit : goal.returns-else-has_no_fit
+returns-else-has_no_fit c = λ zone is own.
+    let tie = c.args.tie.now in
+    c.are_all_groups_wrong.ensures zone is own
+    ∙ ap (λ b. b || are_all_groups_wrong tie.left.now.sheet.now tie.left.now.season.now zone
+    tie.points c.args.club c.args.rival)
+    (sym c.if-has_no_fit.false ∙ c.has_no_fit.ensures zone is
+    ∙ no_fit_is tie c.able_rivals-able.result c.held_among-held.result c.args.club c.args.rival zone
+    c.able_rivals-able.ensures.able c.held_among-held.ensures.held is)

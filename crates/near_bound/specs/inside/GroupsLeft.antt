@@ -1,0 +1,101 @@
+-- Groups of clubs that may form on the points of a tie, and the rivals that are surely on the wrong
+-- side in them.
+use Rattle.std.specs.Prelude.{◌≡◌, ◌≢◌, ℕ, ◌<◌, Bool, true, false, ◌&&◌, ◌||◌, List, length, Option}
+use Rattle.std.specs.Prelude.{Some, None}
+use Rattle.league_core.specs.declared.club_set.ClubSet.{ClubSet}
+use Rattle.league_core.specs.declared.zone.Literal.{Literal}
+use Rattle.league_core.specs.game.ClubSets.{clubs_in}
+use Rattle.league_core.specs.game.Sums.{has_club}
+use Rattle.std.specs.List.{list_any}
+use Rattle.near_laws.specs.Near.{is_wrong_in}
+use Rattle.near_laws.specs.SureLeads.{leads_surely}
+use Rattle.near_bound.specs.declared.tie.Tie.{Tie}
+use Rattle.near_bound.specs.declared.leads.Leads.{Leads}
+use Rattle.near_bound.specs.declared.groups.Wrongs.{Wrongs}
+use Rattle.near_bound.specs.declared.groups.Groups.{Groups}
+use Rattle.near_bound.specs.inside.Ties.{IsTie, IsTieIn, fits_of}
+use Rattle.near_bound.specs.inside.PairLeads.{AreLeadsNear, AreLeadsOf, AreLeadsIn, HaveFits}
+use Rattle.near_bound.specs.inside.PairLeads.{HasFit}
+
+-- the leads of one club over another if a mark asks for them, and none if it does not
+abbrev pub IsMarkedLead : Tie → ClubSet → ℕ → ℕ → Bool → Option Leads → Type 0
+IsMarkedLead tie able front back marked None = marked ≡ false
+IsMarkedLead tie able front back marked (Some leads) =
+    (marked ≡ true) × AreLeadsNear leads × AreLeadsOf tie front back leads
+    × ((zone : List Literal) → IsTieIn tie zone → HaveFits tie able front back zone
+    → AreLeadsIn tie able front back zone leads)
+
+-- a rival's leads by its marks
+pub record AreWrongs (tie : Tie) (able : ClubSet) (club rival : ℕ) (wrongs : Wrongs) : Type 0 where
+  pub behind_leads : IsMarkedLead tie able rival club
+      (has_club (clubs_in tie.left.now.after) rival) wrongs.behind
+  pub ahead_leads : IsMarkedLead tie able club rival
+      (has_club (clubs_in tie.left.now.before) rival) wrongs.ahead
+
+-- clubs of the set that are neither of the two
+abbrev pub AreOthers : ClubSet → ℕ → ℕ → List ℕ → Type 0
+AreOthers able front back others =
+    (club : ℕ) → has_club others club ≡ true
+    → (has_club (clubs_in able) club ≡ true) × (club ≢ front) × (club ≢ back)
+
+-- the rival is on the wrong side in a group with these others
+abbrev pub is_wrong_beside : Tie → List Literal → ℕ → ℕ → List ℕ → Bool
+is_wrong_beside tie zone club rival others =
+    (has_club (clubs_in tie.left.now.after) rival
+    && leads_surely tie.left.now.sheet.now (fits_of tie zone) rival club others)
+    || (has_club (clubs_in tie.left.now.before) rival
+    && leads_surely tie.left.now.sheet.now (fits_of tie zone) club rival others)
+
+-- able rivals of a club, each a club of the sheet
+pub record AreRivals (tie : Tie) (able : ClubSet) (club : ℕ) : Type 0 where
+  pub club_in : club < length tie.left.now.sheet.now.clubs
+  pub of_sheet : (rival : ℕ) → has_club (clubs_in able) rival ≡ true
+      → rival < length tie.left.now.sheet.now.clubs
+  pub not_club : has_club (clubs_in able) club ≡ false
+
+-- the club and its able rivals have fit scores
+pub record RivalsFit (tie : Tie) (able : ClubSet) (club : ℕ) (zone : List Literal) : Type 0 where
+  pub club_fits : HasFit tie zone club
+  pub rivals_fit : (rival : ℕ) → has_club (clubs_in able) rival ≡ true → HasFit tie zone rival
+
+-- the rivals of a tie, one of them with its leads
+pub record IsGroups (groups : Groups) : Type 0 where
+  pub tie_is : IsTie groups.tie.now
+  pub rivals : AreRivals groups.tie.now groups.able groups.club
+  pub first_in : has_club (clubs_in groups.able) groups.first ≡ true
+  pub first_wrongs : AreWrongs groups.tie.now groups.able groups.club groups.first groups.wrongs
+
+-- the zone is of the tie, and its rivals have fit scores
+pub record AreGroupsIn (groups : Groups) (zone : List Literal) : Type 0 where
+  pub tie_in : IsTieIn groups.tie.now zone
+  pub fit : RivalsFit groups.tie.now groups.able groups.club zone
+
+-- each club of the one set is in the other
+abbrev pub AreAmong : ClubSet → ClubSet → Type 0
+AreAmong part whole =
+    (club : ℕ) → has_club (clubs_in part) club ≡ true → has_club (clubs_in whole) club ≡ true
+
+-- the rival is surely wrong in a group
+abbrev pub wrong_in : Groups → List Literal → List ℕ → ℕ → Bool
+wrong_in groups zone group rival =
+    is_wrong_in groups.tie.now.left.now.sheet.now (fits_of groups.tie.now zone) zone groups.club
+    group rival
+
+-- some rival of it is
+abbrev pub group_is_wrong : Groups → List Literal → List ℕ → Bool
+group_is_wrong groups zone group = list_any (wrong_in groups zone group) group
+
+-- the clubs that are chosen come before those that are left
+abbrev pub ComeBefore : ClubSet → ClubSet → Type 0
+ComeBefore chosen left =
+    (club later : ℕ) → has_club (clubs_in chosen) club ≡ true
+    → has_club (clubs_in left) later ≡ true → club < later
+
+-- how a group may go on: with these chosen, and any of those that are left
+pub record MayGoOn (groups : Groups) (chosen left : ClubSet) : Type 0 where
+  pub chosen_in : AreAmong chosen groups.able
+  pub left_in : AreAmong left groups.able
+  pub before : ComeBefore chosen left
+  pub first_there : (has_club (clubs_in chosen) groups.first
+      || has_club (clubs_in left) groups.first) ≡ true
+  pub first_held : has_club (clubs_in groups.held) groups.first ≡ true

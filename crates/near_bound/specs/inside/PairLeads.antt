@@ -1,0 +1,158 @@
+-- The leads of one club over another, as they are kept, and what they are in a zone.
+use Rattle.std.specs.Prelude.{◌≡◌, ◌≢◌, ℕ, ℤ, ◌<◌, pos, neg_ℤ, ◌-ℤ◌, true, List, [], ◌∷◌, length}
+use Rattle.std.specs.Prelude.{slice_index_or, Option, None, IsSome}
+use Rattle.std.specs.Prelude.{◌+◌, drop}
+use Rattle.league_core.specs.declared.club_set.ClubSet.{ClubSet}
+use Rattle.league_core.specs.declared.zone.Literal.{Literal}
+use Rattle.league_core.specs.game.Ahead.{rank_of}
+use Rattle.league_core.specs.game.ClubSets.{clubs_in}
+use Rattle.league_core.specs.game.Sums.{has_club, worth_to, worth_among}
+use Rattle.league_core.specs.declared.sheet.Fixture.{Fixture}
+use Rattle.league_core.specs.declared.season.Score.{Score}
+use Rattle.near_laws.specs.Fits.{have_fit}
+use Rattle.near_laws.specs.Leads.{Lead, added_leads, least_lead, margins, worth_against}
+use Rattle.near_laws.specs.SureLeads.{pair_lead, lead_against, first_lead, overall_worths}
+use Rattle.near_laws.specs.SureLeads.{record_worths, first_worths}
+use Rattle.near_bound.specs.declared.match_left.MatchLeft.{MatchLeft}
+use Rattle.near_bound.specs.declared.margin.Margin.{Margin}
+use Rattle.near_bound.specs.declared.tie.Tie.{Tie}
+use Rattle.near_bound.specs.declared.leads.Leads.{Leads}
+use Rattle.near_bound.specs.inside.Margins.{lead_by, record_parts, first_parts, overall_parts}
+use Rattle.near_bound.specs.inside.Margins.{IsLeadWithin}
+use Rattle.near_bound.specs.inside.MatchesLeft.{IsLeftOf}
+use Rattle.near_bound.specs.inside.Ties.{IsTieIn, fits_of}
+
+-- the club's fit scores leave none of its matches without one
+abbrev pub HasFit : Tie → List Literal → ℕ → Type 0
+HasFit tie zone club =
+    have_fit tie.left.now.sheet.now tie.left.now.season.now zone tie.points (club ∷ []) ≡ true
+
+-- the lead so far, with that of the fixtures to come, is the whole one
+abbrev pub IsLeadSoFar : List (Fixture → Score → ℤ) → List Fixture → List (List Score) → ℕ → Lead
+    → Type 0
+IsLeadSoFar values matches options count lead =
+    added_leads lead (least_lead values (drop count matches) (drop count options))
+    ≡ least_lead values matches options
+
+-- from a lead over so many fixtures to one over one fixture more
+abbrev pub LeadGoesOn : List (Fixture → Score → ℤ) → List Fixture → List (List Score) → ℕ → Lead
+    → Lead → Type 0
+LeadGoesOn values matches options count old new =
+    IsLeadSoFar values matches options count old
+    → IsLeadSoFar values matches options (count + 1) new
+
+-- the lead of two clubs takes a fixture
+abbrev pub TakesPair : Tie → ℕ → ℕ → ℕ → Option Margin → Option Margin → Type 0
+TakesPair tie fixture front back old new =
+    (zone : List Literal) → IsTieIn tie zone → HasFit tie zone front → HasFit tie zone back
+    → LeadGoesOn (margins (worth_among (front ∷ back ∷ [])) record_worths front back)
+    tie.left.now.sheet.now.fixtures (fits_of tie zone (front ∷ back ∷ [])) fixture
+    (lead_by record_parts old) (lead_by record_parts new)
+
+-- their leads over all matches take one
+abbrev pub TakesOverall : Tie → ℕ → ℕ → ℕ → Option Margin → Option Margin → Type 0
+TakesOverall tie fixture front back old new =
+    (zone : List Literal) → IsTieIn tie zone → HasFit tie zone front → HasFit tie zone back
+    → LeadGoesOn (margins worth_to first_worths front back) tie.left.now.sheet.now.fixtures
+    (fits_of tie zone (front ∷ back ∷ [])) fixture (lead_by first_parts old)
+    (lead_by first_parts new)
+    × LeadGoesOn (margins worth_to overall_worths front back) tie.left.now.sheet.now.fixtures
+    (fits_of tie zone (front ∷ back ∷ [])) fixture (lead_by overall_parts old)
+    (lead_by overall_parts new)
+
+-- a lead in a table
+abbrev pub kept_lead : List (Option Margin) → ℕ → Option Margin
+kept_lead table club = slice_index_or table club None
+
+-- two different clubs, and a set of clubs of the sheet
+pub record AreClubsOf (tie : Tie) (able : ClubSet) (front back : ℕ) : Type 0 where
+  pub front_in : front < length tie.left.now.sheet.now.clubs
+  pub back_in : back < length tie.left.now.sheet.now.clubs
+  pub apart : front ≢ back
+  pub of_sheet : (club : ℕ) → has_club (clubs_in able) club ≡ true
+      → club < length tie.left.now.sheet.now.clubs
+
+-- each of them has fit scores
+pub record HaveFits (tie : Tie) (able : ClubSet) (front back : ℕ) (zone : List Literal) : Type 0
+  where
+    pub front_fits : HasFit tie zone front
+    pub back_fits : HasFit tie zone back
+    pub each_fits : (club : ℕ) → has_club (clubs_in able) club ≡ true → HasFit tie zone club
+
+-- the leads of the front club over the back one in the zone. By third clubs they are only kept if
+-- the match of the two has a fit score
+pub record AreLeadsIn (tie : Tie) (able : ClubSet) (front back : ℕ) (zone : List Literal)
+    (leads : Leads) : Type 0 where
+  pub pair : lead_by record_parts leads.pair
+      ≡ pair_lead tie.left.now.sheet.now (fits_of tie zone) front back
+  pub first : lead_by first_parts leads.overall
+      ≡ first_lead tie.left.now.sheet.now (fits_of tie zone) front back
+  pub overall : lead_by overall_parts leads.overall
+      ≡ least_lead (margins worth_to overall_worths front back) tie.left.now.sheet.now.fixtures
+      (fits_of tie zone (front ∷ back ∷ []))
+  pub against : IsSome leads.pair → (rival : ℕ) → has_club (clubs_in able) rival ≡ true
+      → rival ≢ front → rival ≢ back → lead_by record_parts (kept_lead leads.against rival)
+      ≡ lead_against tie.left.now.sheet.now (fits_of tie zone) front back rival
+
+-- how they are kept: numbers that are not far from zero
+pub record AreLeadsNear (leads : Leads) : Type 0 where
+  pub pair : IsLeadWithin 400000 leads.pair
+  pub overall : IsLeadWithin 400000 leads.overall
+  pub long : length leads.against ≡ 32
+  pub against : (club : ℕ) → IsLeadWithin 400000 (kept_lead leads.against club)
+
+-- the fixed ranks and the order are the sheet's
+pub record AreLeadsOf (tie : Tie) (front back : ℕ) (leads : Leads) : Type 0 where
+  pub rank : leads.rank ≡ neg_ℤ (pos (rank_of tie.left.now.sheet.now front))
+      -ℤ neg_ℤ (pos (rank_of tie.left.now.sheet.now back))
+  pub order : leads.order ≡ tie.left.now.sheet.now.order
+
+-- the lead in the head-to-head of the two alone, in each zone in which both have fit scores
+abbrev pub IsPairLead : Tie → ℕ → ℕ → Option Margin → Type 0
+IsPairLead tie front back lead =
+    (zone : List Literal) → IsTieIn tie zone → HasFit tie zone front → HasFit tie zone back
+    → lead_by record_parts lead
+    ≡ pair_lead tie.left.now.sheet.now (fits_of tie zone) front back
+
+-- the same over all matches: in the two sums that may come first, and in those that come last
+abbrev pub AreOverallLeads : Tie → ℕ → ℕ → Option Margin → Type 0
+AreOverallLeads tie front back lead =
+    (zone : List Literal) → IsTieIn tie zone → HasFit tie zone front → HasFit tie zone back
+    → (lead_by first_parts lead
+    ≡ first_lead tie.left.now.sheet.now (fits_of tie zone) front back)
+    × (lead_by overall_parts lead
+    ≡ least_lead (margins worth_to overall_worths front back) tie.left.now.sheet.now.fixtures
+    (fits_of tie zone (front ∷ back ∷ [])))
+
+-- what is fit for both
+abbrev pub IsFitForBoth : Tie → ℕ → ℕ → ℕ → MatchLeft → Type 0
+IsFitForBoth tie fixture front back left =
+    (zone : List Literal) → IsTieIn tie zone
+    → IsLeftOf left (slice_index_or (fits_of tie zone (front ∷ back ∷ [])) fixture [])
+
+-- some score of each match is fit for both
+abbrev pub HaveCommonFit : Tie → List Literal → ℕ → ℕ → Type 0
+HaveCommonFit tie zone front back =
+    have_fit tie.left.now.sheet.now tie.left.now.season.now zone tie.points (front ∷ back ∷ [])
+    ≡ true
+
+-- the table has, for each able club other than the two, the lead against it
+abbrev pub AreLeadsAgainst : Tie → ClubSet → ℕ → ℕ → List (Option Margin) → Type 0
+AreLeadsAgainst tie able front back table =
+    (zone : List Literal) → IsTieIn tie zone → HaveCommonFit tie zone front back
+    → HasFit tie zone front → HasFit tie zone back
+    → (rival : ℕ) → has_club (clubs_in able) rival ≡ true → HasFit tie zone rival
+    → rival ≢ front → rival ≢ back → lead_by record_parts (kept_lead table rival)
+    ≡ lead_against tie.left.now.sheet.now (fits_of tie zone) front back rival
+
+-- the leads by third clubs take a fixture
+abbrev pub TakesAgainst : Tie → ClubSet → ℕ → ℕ → ℕ → List (Option Margin) → List (Option Margin)
+    → Type 0
+TakesAgainst tie able fixture front back old new =
+    (zone : List Literal) → IsTieIn tie zone → HaveCommonFit tie zone front back
+    → HasFit tie zone front → HasFit tie zone back
+    → (rival : ℕ) → has_club (clubs_in able) rival ≡ true → HasFit tie zone rival
+    → rival ≢ front → rival ≢ back
+    → LeadGoesOn (margins (worth_against rival) record_worths front back)
+    tie.left.now.sheet.now.fixtures (fits_of tie zone (front ∷ back ∷ rival ∷ [])) fixture
+    (lead_by record_parts (kept_lead old rival)) (lead_by record_parts (kept_lead new rival))
