@@ -23,7 +23,7 @@ use Rattle.near_bound.specs.declared.groups.Groups.{Groups}
 use Rattle.near_bound.specs.declared.tie.Tie.{Tie}
 use Rattle.near_bound.specs.inside.Ties.{IsTieIn, fits_of}
 use Rattle.near_bound.specs.inside.PairLeads.{HasFit}
-use Rattle.near_bound.specs.inside.GroupsLeft.{AreGroupsIn, RivalsFit, group_is_wrong}
+use Rattle.near_bound.specs.inside.GroupsLeft.{AreGroupsIn, RivalsFit, AreAmong, group_is_wrong}
 use Rattle.near_bound.specs.inside.AbleRivals.{is_able_in, is_held_in, lacks_fit}
 use Rattle.near_bound.specs.inside.AbleRivals.{AreAbleRivals, AreHeldRivals}
 
@@ -104,6 +104,14 @@ able_rivals_fit tie able club zone are is own = record {
       ∙ ap (λ (xs : List ℕ). has_club xs rival) (sym (are zone is)) ∙ has)).1;
 }
 
+-- and some of these
+pub held_fit : (tie : Tie) (able held : ClubSet) (club : ℕ) (zone : List Literal)
+    → AreAmong held able → RivalsFit tie able club zone → RivalsFit tie held club zone
+held_fit tie able held club zone among fit = record {
+  club_fits = fit.club_fits;
+  rivals_fit = λ rival has. fit.rivals_fit rival (among rival has);
+}
+
 -- the held ones are those of the able ones for which that is true
 pub held_list : (tie : Tie) (able held : ClubSet) (rival : ℕ) (zone : List Literal)
     → AreHeldRivals tie able rival held → IsTieIn tie zone
@@ -176,18 +184,18 @@ all_groups_are tie able held loose club rival zone are held_are is rest =
     wrong : List ℕ → Bool
     wrong = has_wrong tie.left.now.sheet.now (fits_of tie zone) zone club
 
--- groups of a tie with nothing chosen yet
-pub from_nothing : (groups : Groups) (tie : Tie) (club : ℕ) (able held chosen : ClubSet)
-    (zone : List Literal) → groups.tie.now ≡ tie → groups.club ≡ club → groups.held ≡ held
-    → clubs_in chosen ≡ []
-    → list_all (λ group. group_is_wrong groups zone (clubs_in chosen ++ group))
-    (groups_with (has_club (clubs_in groups.held)) (clubs_in able))
+-- groups that are looked at are those of the sets that they were made of
+pub groups_are : (groups : Groups) (tie : Tie) (club : ℕ) (able held : ClubSet)
+    (zone : List Literal) → groups.tie.now ≡ tie → groups.club ≡ club → groups.able ≡ able
+    → groups.held ≡ held
+    → list_all (group_is_wrong groups zone)
+    (groups_with (has_club (clubs_in groups.held)) (clubs_in groups.able))
     ≡ list_all (has_wrong tie.left.now.sheet.now (fits_of tie zone) zone club)
     (groups_with (has_club (clubs_in held)) (clubs_in able))
-from_nothing groups tie club able held chosen zone tie_is club_is held_is none =
-    λ i. list_all (λ group. has_wrong (tie_is i).left.now.sheet.now (fits_of (tie_is i) zone) zone
-    (club_is i) (none i ++ group))
-    (groups_with (has_club (clubs_in (held_is i))) (clubs_in able))
+groups_are groups tie club able held zone tie_is club_is able_is held_is =
+    λ i. list_all (has_wrong (tie_is i).left.now.sheet.now (fits_of (tie_is i) zone) zone
+    (club_is i))
+    (groups_with (has_club (clubs_in (held_is i))) (clubs_in (able_is i)))
 
 -- they are the zone's
 pub groups_in : (groups : Groups) (tie : Tie) (club : ℕ) (able : ClubSet) (zone : List Literal)

@@ -14,7 +14,7 @@ use Rattle.near_laws.specs.Groups.{groups_with}
 use Rattle.near_bound.specs.declared.groups.Groups.{Groups}
 use Rattle.near_bound.specs.inside.GroupsLeft.{MayGoOn}
 
-joined_all : (test : List ℕ → Bool) (club : ℕ) (groups : List (List ℕ))
+pub joined_all : (test : List ℕ → Bool) (club : ℕ) (groups : List (List ℕ))
     → list_all test (map (λ group. club ∷ group) groups)
     ≡ list_all (λ group. test (club ∷ group)) groups
 joined_all test club [] = refl

@@ -5,7 +5,10 @@ pub mod WorstLemmas
 pub mod OrderLemmas
 pub mod MarginLemmas
 pub mod PointLemmas
+pub mod OutcomeLemmas
+pub mod GivenPointLemmas
 pub mod FitLeftLemmas
+pub mod OneScoreLemmas
 pub mod TieLemmas
 pub mod LeadWalkLemmas
 pub mod CommonFitLemmas
@@ -13,8 +16,12 @@ pub mod GroupWorthLemmas
 pub mod PairLeadLemmas
 pub mod ThirdClubLemmas
 pub mod ThirdTableLemmas
+pub mod MatchLeadLemmas
 pub mod SomeLeadLemmas
 pub mod GroupSetLemmas
 pub mod DecisionLemmas
 pub mod GroupWalkLemmas
+pub mod LeadTableLemmas
 pub mod AbleRivalLemmas
+pub mod RangeFitLemmas
+pub mod AllEndsLemmas

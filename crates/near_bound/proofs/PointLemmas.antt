@@ -1,10 +1,8 @@
--- The points of a match: the least at the worst score for a side, the most at the worst for the
--- other; and points added over matches.
-use Rattle.std.proofs.Common.{◌≡◌, ◌≢◌, ℕ, ℤ, pos, ◌+◌, ◌<◌, ◌+ℤ◌, ◌-ℤ◌, ◌≤◌, ◌≤ℤ◌, Bool, true}
+-- The points of a match, as what it gives to a club; and points added over matches.
+use Rattle.std.proofs.Common.{◌≡◌, ◌≢◌, ℕ, ℤ, pos, ◌+◌, ◌<◌, ◌+ℤ◌, ◌-ℤ◌, ◌≤◌, true}
 use Rattle.std.proofs.Common.{false}
-use Rattle.std.proofs.Common.{not}
 use Rattle.std.proofs.Common.{cond, ◌==◌, List, [], ◌∷◌, length, get_or, drop, refl, sym, ap, ◌∙◌}
-use Rattle.std.proofs.Common.{eq-eqb, inl, inr, arith}
+use Rattle.std.proofs.Common.{eq-eqb, arith}
 use Rattle.std.proofs.lemmas.Int.{ints}
 use Rattle.std.proofs.lemmas.Bool.{ne_eqb, false≢true}
 use Rattle.league_core.specs.declared.sheet.Fixture.{Fixture}
@@ -14,90 +12,11 @@ use Rattle.league_core.specs.search.Options.{has_score}
 use Rattle.league_core.specs.search.PointRanges.{Range, range_of, range_from, points_together}
 use Rattle.league_core.specs.search.PointRanges.{added, one_value}
 use Rattle.league_core.proofs.OptionLemmas.{has_score-first}
-use Rattle.league_core.proofs.PointRangeLemmas.{least-is, greatest-is, range_of-same}
+use Rattle.league_core.proofs.PointRangeLemmas.{range_of-same}
 use Rattle.league_core.proofs.PointRangeLemmas.{range_from-more, range_from-all}
 use Rattle.league_core.proofs.RangeLemmas.{range_of-none, added-assoc, added-none}
-use Rattle.near_bound.specs.declared.match_left.MatchLeft.{MatchLeft}
 use Rattle.near_bound.specs.declared.points.PointEnds.{PointEnds}
-use Rattle.near_bound.specs.inside.MatchesLeft.{is_score_left, turned, IsAsBad, IsLeftOf}
-use Rattle.near_bound.specs.inside.MatchesLeft.{IsWorstFor, IsNothing}
-use Rattle.near_bound.specs.inside.Points.{range_of_ends, side_points, AreEndsWithin}
-use Rattle.near_bound.proofs.WorstLemmas.{rise, level}
-
--- what is as bad for a side gives it no more points
-fewer_points : (away : Bool) (worst score : Score)
-    → IsAsBad false (cond away (turned worst) worst) (cond away (turned score) score)
-    → side_points away worst ≤ℤ side_points away score
-fewer_points false worst score (inl less) =
-    rise worst.home worst.away score.home score.away false less
-fewer_points false worst score (inr same) =
-    let e = level worst.home worst.away score.home score.away false same.0 in
-    omega (arith, ints)
-fewer_points true worst score (inl less) =
-    rise worst.away worst.home score.away score.home true less
-fewer_points true worst score (inr same) =
-    let e = level worst.away worst.home score.away score.home true same.0 in
-    omega (arith, ints)
-
--- and what is as bad for the other side no fewer
-more_points : (away : Bool) (best score : Score)
-    → IsAsBad false (cond (not away) (turned best) best) (cond (not away) (turned score) score)
-    → side_points away score ≤ℤ side_points away best
-more_points false best score (inl less) =
-    rise score.home score.away best.home best.away false (omega arith)
-more_points false best score (inr same) =
-    let e = level score.home score.away best.home best.away false (omega (arith, same.0)) in
-    omega (arith, ints)
-more_points true best score (inl less) =
-    rise score.away score.home best.away best.home true (omega arith)
-more_points true best score (inr same) =
-    let e = level score.away score.home best.away best.home true (omega (arith, same.0)) in
-    omega (arith, ints)
-
--- the range of a side's points is from the worst score to the best
-pub side_range : (left : MatchLeft) (away : Bool) (options : List Score) (worst best : Score)
-    (ends : PointEnds) → IsWorstFor left away false worst → IsWorstFor left (not away) false best
-    → ends.least ≡ side_points away worst → ends.most ≡ side_points away best
-    → IsLeftOf left options → range_of_ends ends ≡ range_of (side_points away) options
-side_range left away options worst best ends is_worst is_best low high left_of =
-    let least = least-is (side_points away) options ends.least
-    (λ score has.
-    let here = fewer_points away worst score (is_worst.least score (left_of score ∙ has)) in
-    omega (arith, ints))
-    (worst, sym (left_of worst) ∙ is_worst.is_left, sym low) in
-    let most = greatest-is (side_points away) options ends.most
-    (λ score has.
-    let here = more_points away best score (is_best.least score (left_of score ∙ has)) in
-    omega (arith, ints))
-    (best, sym (left_of best) ∙ is_best.is_left, sym high) in
-    (λ i. record { least = least i; greatest = most i })
-
-side_points-within : (away : Bool) (score : Score)
-    → (pos 0 ≤ℤ side_points away score) × (side_points away score ≤ℤ pos 3)
-side_points-within true score = within score.away score.home true
-  where
-    within : (a b : ℕ) (away : Bool)
-        → (pos 0 ≤ℤ match_points a b away) × (match_points a b away ≤ℤ pos 3)
-    within a b away = (grind (arith, ints), grind (arith, ints))
-side_points-within false score = within score.home score.away false
-  where
-    within : (a b : ℕ) (away : Bool)
-        → (pos 0 ≤ℤ match_points a b away) × (match_points a b away ≤ℤ pos 3)
-    within a b away = (grind (arith, ints), grind (arith, ints))
-
-pub side_within : (left : MatchLeft) (away : Bool) (worst best : Score) (ends : PointEnds)
-    → IsWorstFor left away false worst → IsWorstFor left (not away) false best
-    → ends.least ≡ side_points away worst → ends.most ≡ side_points away best
-    → AreEndsWithin (pos 3) ends
-side_within left away worst best ends is_worst is_best low high =
-    let bad = side_points-within away worst in
-    let good = side_points-within away best in
-    let order = fewer_points away worst best (is_worst.least best is_best.is_left) in
-    record {
-      least = omega (arith, ints, bad.0);
-      in_order = omega (arith, ints);
-      most = omega (arith, ints, good.1);
-    }
+use Rattle.near_bound.specs.inside.Points.{range_of_ends, side_points}
 
 -- where no score is left there is no option
 pub no_options : (options : List Score) → ((score : Score) → has_score options score ≡ false)
@@ -105,17 +24,6 @@ pub no_options : (options : List Score) → ((score : Score) → has_score optio
 no_options [] none = refl
 no_options (first ∷ options) none = absurd
     (false≢true (sym (none first) ∙ has_score-first first options))
-
-pub nothing_range : (value : Score → ℤ) (left : MatchLeft) (options : List Score) → IsNothing left
-    → IsLeftOf left options → one_value (pos 0) ≡ range_of value options
-nothing_range value left options nothing left_of =
-    ap (range_of value) (sym (no_options options (λ score. sym (left_of score) ∙ nothing score)))
-
--- both cannot be: a score is worst for one side, and none is left
-pub some_or_nothing : (left : MatchLeft) (score : Score) (P : Type 0) → IsNothing left
-    → is_score_left left score ≡ true → P
-some_or_nothing left score P nothing is_left = absurd
-    (false≢true (sym (nothing score) ∙ is_left))
 
 -- what a match gives to a side, as what it gives to the club
 pub at_home_alone : (match : Fixture) (club : ℕ) (options : List Score) → match.home ≡ club

@@ -177,21 +177,21 @@ pub nothing_at : (club : ℕ) → club < 32
     → Some no_margin ≡ kept_lead (replicate 32 (Some no_margin)) club
 nothing_at club within = sym (get_or-replicate 32 club (Some no_margin) None within)
 
+pub none_within : (bound : ℕ) → IsMarginWithin bound no_margin
+none_within bound = record {
+  points = (omega (arith, ints), omega (arith, ints));
+  difference = (omega (arith, ints), omega (arith, ints));
+  goals = (omega (arith, ints), omega (arith, ints));
+  away_goals = (omega (arith, ints), omega (arith, ints));
+  wins = (omega (arith, ints), omega (arith, ints));
+  away_wins = (omega (arith, ints), omega (arith, ints));
+}
+
 pub nothing_near : (bound club : ℕ)
     → IsLeadWithin bound (kept_lead (replicate 32 (Some no_margin)) club)
 nothing_near bound club =
     elim (nothing_in club) as (λ _.
     IsLeadWithin bound (kept_lead (replicate 32 (Some no_margin)) club)) [
-      | inl is ↦ subst (λ (l : Option Margin). IsLeadWithin bound l) (sym is) none_within
+      | inl is ↦ subst (λ (l : Option Margin). IsLeadWithin bound l) (sym is) (none_within bound)
       | inr is ↦ subst (λ (l : Option Margin). IsLeadWithin bound l) (sym is) tt
     ]
-  where
-    none_within : IsMarginWithin bound no_margin
-    none_within = record {
-      points = (omega (arith, ints), omega (arith, ints));
-      difference = (omega (arith, ints), omega (arith, ints));
-      goals = (omega (arith, ints), omega (arith, ints));
-      away_goals = (omega (arith, ints), omega (arith, ints));
-      wins = (omega (arith, ints), omega (arith, ints));
-      away_wins = (omega (arith, ints), omega (arith, ints));
-    }

@@ -19,7 +19,7 @@ use Rattle.near_bound.specs.declared.zone_left.ZoneLeft.{ZoneLeft}
 use Rattle.near_bound.specs.inside.MatchesLeft.{IsLeftOf, is_score_left}
 use Rattle.near_bound.specs.inside.Points.{is_fit_by, fit_by}
 use Rattle.near_bound.specs.inside.ZonesLeft.{IsZoneLeft, StandsFor}
-use Rattle.near_bound.specs.inside.Ties.{ends_listed}
+use Rattle.near_bound.specs.inside.Points.{ends_listed}
 use Rattle.near_bound.proofs.FitLeftLemmas.{fit_at, left_same, shared_left}
 
 -- what holds of each club passed, and of one more

@@ -4,6 +4,7 @@ pub mod MatchesLeft
 pub mod Margins
 pub mod Points
 pub mod ZonesLeft
+pub mod AllEnds
 pub mod Ties
 pub mod PairLeads
 pub mod Decisions

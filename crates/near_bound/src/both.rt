@@ -7,7 +7,7 @@ ghost use Rattle.league_core.specs.game.ClubSets.{clubs_in};
 ghost use Rattle.league_core.specs.game.Sums.{has_club};
 ghost use Rattle.near_laws.specs.Near.{cannot_both_have, are_all_groups_wrong, able_rivals};
 ghost use Rattle.near_bound.specs.inside.Ties.{IsTie, IsTieIn};
-ghost use Rattle.near_bound.specs.inside.GroupsLeft.{AreRivals, AreAmong};
+ghost use Rattle.near_bound.specs.inside.GroupsLeft.{AreRivals, AreAmong, RivalsFit};
 ghost use Rattle.near_bound.specs.inside.AbleRivals.{is_able_in, is_held_in, lacks_fit};
 ghost use Rattle.near_bound.specs.inside.AbleRivals.{AreAbleRivals, AreHeldRivals};
 
@@ -76,13 +76,11 @@ fn is_held(tie: &Tie, rival: u8, other: u8) -> bool
     other == rival || tie.is_surely_on(other)
 }
 
-// One of the rivals has no score left for its match with the club.
+// One of the rivals has no score left for its match with the club; they and it have fit scores.
 fn has_no_fit(tie: &Tie, club: u8, rivals: ClubSet) -> bool
     requires tie { IsTie tie.now }
-    requires in_range { club < length tie.now.left.now.sheet.now.clubs }
-    requires of_sheet { (other : ℕ) → has_club (clubs_in rivals) other ≡ true
-        → other < length tie.now.left.now.sheet.now.clubs }
-    ensures { (zone : List Literal) → IsTieIn tie.now zone
+    requires rivals { AreRivals tie.now rivals club }
+    ensures { (zone : List Literal) → IsTieIn tie.now zone → RivalsFit tie.now rivals club zone
         → result ≡ list_any (lacks_fit tie.now zone club) (clubs_in rivals) }
 {
     !rivals.keep(|other| !tie.have_fit(club, other)).is_empty()
@@ -105,7 +103,7 @@ fn are_all_groups_wrong(tie: &Tie, club: u8, able: ClubSet, held: ClubSet, rival
     }
     let first = first_held(held, rival);
     able.without(held).len() <= MOST_LOOSE
-        && Groups::new(tie, club, able, held, first).are_wrong_with(ClubSet::empty(), able)
+        && Groups::new(tie, club, able, held, first).are_all_wrong()
 }
 
 // As many rivals may be on the points or not, at most.

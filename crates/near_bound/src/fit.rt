@@ -1,10 +1,10 @@
 //! The scores that are fit for a club which is to end on a number of points.
 
-ghost use Rattle.std.specs.Prelude.{◌≡◌, ◌&&◌, ◌+ℤ◌, ◌-ℤ◌, List, pos};
+ghost use Rattle.std.specs.Prelude.{◌≡◌, true, ◌&&◌, ◌+ℤ◌, ◌-ℤ◌, List, pos};
 ghost use Rattle.league_core.specs.declared.season.Score.{Score};
-ghost use Rattle.league_core.specs.search.Options.{has_option};
 ghost use Rattle.near_laws.specs.Fits.{can_reach};
 ghost use Rattle.near_bound.specs.inside.MatchesLeft.{IsLeftOf, is_score_left, are_goals_left};
+ghost use Rattle.near_bound.specs.inside.MatchesLeft.{LeavesOneAtMost};
 ghost use Rattle.near_bound.specs.inside.Points.{range_of_ends, by_outcome, AreEndsOfClub};
 ghost use Rattle.near_bound.specs.inside.Points.{AreEndsWithin};
 ghost use Rattle.near_bound.specs.inside.Points.{fit_by, IsUsual, IsPoints};
@@ -21,6 +21,10 @@ pub fn fit(left: &MatchLeft, fixture: Fixture, club: u8, all: PointEnds, points:
     ensures { (options : List Score) → IsLeftOf left.now options
         → IsLeftOf result (fit_by (range_of_ends all) points club fixture options) }
 {
+    if left.has_one_at_most() {
+        let stays = all.has(points);
+        return left.kept(stays, stays, stays);
+    }
     let here = points_left(left, fixture, club);
     let drawn = reaches(all, here, 1, points);
     let lost = reaches(all, here, 0, points);
@@ -55,6 +59,13 @@ fn exchanged(all: i32, here: i32, given: u8) -> i32
 }
 
 impl MatchLeft {
+    // No two scores are left, as in a match that is played.
+    fn has_one_at_most(&self) -> bool
+        ensures { result ≡ true → LeavesOneAtMost self.now }
+    {
+        self.home_least == self.home_most && self.away_least == self.away_most
+    }
+
     // Without the outcomes that are not kept.
     fn kept(&self, home_win: bool, draw: bool, away_win: bool) -> MatchLeft
         ensures { (score : Score) → is_score_left result score
@@ -94,13 +105,5 @@ impl MatchLeft {
             away_least: self.away_least.max(other.away_least),
             away_most: self.away_most.min(other.away_most),
         }
-    }
-
-    /// Some score is left.
-    pub(crate) fn has_score(&self) -> bool
-        ensures { (options : List Score) → IsLeftOf self.now options
-            → result ≡ has_option options }
-    {
-        self.worst(false, false).is_some()
     }
 }

@@ -1,74 +1,19 @@
 //! Whether each group of clubs that may form on the points has a club on the wrong side.
 
-ghost use Rattle.std.specs.Prelude.{◌≡◌, ◌&&◌, ◌++◌, Bool, true, ℕ, List, MatchOption};
+ghost use Rattle.std.specs.Prelude.{◌≡◌, ◌++◌, true, List};
+ghost use Rattle.std.specs.List.{list_all, list_any};
 ghost use Rattle.league_core.specs.declared.zone.Literal.{Literal};
 ghost use Rattle.league_core.specs.game.ClubSets.{clubs_in};
 ghost use Rattle.league_core.specs.game.Sums.{has_club};
-ghost use Rattle.near_laws.specs.SureLeads.{leads_surely};
-ghost use Rattle.near_bound.specs.declared.tie.Tie as ties;
-ghost use Rattle.league_core.specs.declared.club_set.ClubSet as sets;
-ghost use Rattle.near_bound.specs.inside.Ties.{IsTie, IsTieIn, fits_of};
-ghost use Rattle.near_bound.specs.inside.PairLeads.{AreClubsOf, AreLeadsNear, HaveFits};
-ghost use Rattle.near_bound.specs.inside.GroupsLeft.{IsMarkedLead, AreWrongs, AreOthers};
-ghost use Rattle.near_bound.specs.inside.GroupsLeft.{AreRivals, IsGroups, AreGroupsIn, AreAmong};
-ghost use Rattle.near_bound.specs.inside.GroupsLeft.{wrong_in, group_is_wrong, MayGoOn};
 ghost use Rattle.near_laws.specs.Groups.{groups_with};
-ghost use Rattle.std.specs.List.{list_all, list_any};
+ghost use Rattle.near_bound.specs.inside.Ties.{IsTie};
+ghost use Rattle.near_bound.specs.inside.GroupsLeft.{AreWrongs, IsGroups, IsLeadTable};
+ghost use Rattle.near_bound.specs.inside.GroupsLeft.{AreRivals, AreGroupsIn, AreAmong, MayGoOn};
+ghost use Rattle.near_bound.specs.inside.GroupsLeft.{wrong_in, group_is_wrong};
 
-use crate::leads::Leads;
 use crate::tie::Tie;
+use crate::wrongs::{Wrongs, decide};
 use league_core::ClubSet;
-
-/// A rival's leads over the club if it is marked after it, and the club's over the rival if it is
-/// marked before.
-#[derive(Clone, Copy)]
-pub struct Wrongs {
-    pub behind: Option<Leads>,
-    pub ahead: Option<Leads>,
-}
-
-impl Wrongs {
-    /// Those of a rival.
-    pub fn of(tie: &Tie, able: ClubSet, club: u8, rival: u8) -> Wrongs
-        requires tie { IsTie tie.now }
-        requires rivals { AreRivals tie.now able club }
-        requires among { has_club (clubs_in able) rival ≡ true }
-        ensures { AreWrongs tie.now able club rival result }
-    {
-        Wrongs {
-            behind: leads_if(tie.left.after.has(rival), tie, able, rival, club),
-            ahead: leads_if(tie.left.before.has(rival), tie, able, club, rival),
-        }
-    }
-}
-
-fn leads_if(marked: bool, tie: &Tie, able: ClubSet, front: u8, back: u8) -> Option<Leads>
-    requires tie { IsTie tie.now }
-    requires clubs { AreClubsOf tie.now able front back }
-    ensures { IsMarkedLead tie.now able front back marked result }
-{
-    if marked {
-        Some(tie.leads(able, front, back))
-    } else {
-        None
-    }
-}
-
-// The leads, if there are some, decide.
-fn decide(leads: &Option<Leads>, others: ClubSet) -> bool
-    requires { MatchOption leads.now (Unit {0}) AreLeadsNear }
-    ensures { (tie : ties.Tie) (able : sets.ClubSet) (front back : ℕ) (marked : Bool)
-        (zone : List Literal) → IsMarkedLead tie able front back marked leads.now
-        → IsTieIn tie zone → HaveFits tie able front back zone
-        → AreOthers able front back (clubs_in others)
-        → result ≡ (marked && leads_surely tie.left.now.sheet.now (fits_of tie zone) front back
-        (clubs_in others)) }
-{
-    match leads {
-        None => false,
-        Some(leads) => leads.decide(others),
-    }
-}
 
 /// The groups that may form on the points of a tie: those of a club's able rivals that have all the
 /// held ones, of which one is looked at first.
@@ -79,7 +24,6 @@ pub struct Groups<'a> {
     pub able: ClubSet,
     pub held: ClubSet,
     pub first: u8,
-    pub wrongs: Wrongs,
 }
 
 impl<'a> Groups<'a> {
@@ -87,13 +31,13 @@ impl<'a> Groups<'a> {
     pub fn new(tie: &'a Tie<'a>, club: u8, able: ClubSet, held: ClubSet, first: u8) -> Groups<'a>
         requires tie { IsTie tie.now }
         requires rivals { AreRivals tie.now able club }
-        requires among { has_club (clubs_in able) first ≡ true }
+        requires held { AreAmong held able }
+        requires first { has_club (clubs_in held) first ≡ true }
         ensures is { IsGroups result }
         ensures tie { result.tie.now ≡ tie.now }
         ensures club { result.club ≡ club }
         ensures able { result.able ≡ able }
         ensures held { result.held ≡ held }
-        ensures first { result.first ≡ first }
     {
         Groups {
             tie,
@@ -101,56 +45,112 @@ impl<'a> Groups<'a> {
             able,
             held,
             first,
-            wrongs: Wrongs::of(tie, able, club, first),
         }
     }
 
-    /// Each group with these, and any of those that are left, has a rival that is surely wrong.
-    /// Groups with fewer clubs come first.
-    pub fn are_wrong_with(&self, chosen: ClubSet, left: ClubSet) -> bool
+    /// Each of them has a rival that is surely wrong. The leads of a rival are taken when it is
+    /// first looked at.
+    pub fn are_all_wrong(&self) -> bool
         requires groups { IsGroups self.now }
-        requires go_on { MayGoOn self.now chosen left }
         ensures { (zone : List Literal) → AreGroupsIn self.now zone → result
+            ≡ list_all (group_is_wrong self.now zone)
+            (groups_with (has_club (clubs_in self.now.held)) (clubs_in self.now.able)) }
+    {
+        let mut table = [None; 32];
+        self.are_wrong_with(&mut table, ClubSet::empty(), self.able)
+    }
+
+    // Each group with these, and any of those that are left, has one. A group comes before those
+    // that have the same clubs and others.
+    fn are_wrong_with(
+        &self,
+        table: &mut [Option<Wrongs>; 32],
+        chosen: ClubSet,
+        left: ClubSet,
+    ) -> bool
+        requires groups { IsGroups self.now }
+        requires kept { IsLeadTable self.now table.old }
+        requires go_on { MayGoOn self.now chosen left }
+        ensures value { (zone : List Literal) → AreGroupsIn self.now zone → result
             ≡ list_all (λ group. group_is_wrong self.now zone (clubs_in chosen ++ group))
             (groups_with (has_club (clubs_in self.now.held)) (clubs_in left)) }
+        ensures kept { IsLeadTable self.now table.new }
     {
         if left.is_empty() {
-            return self.has_wrong(chosen);
+            return self.has_wrong(table, chosen);
         }
         let club = left.first_club();
         let rest = left.without(ClubSet::single(club));
         let more = chosen.with_if(true, club);
         if self.held.has(club) {
-            return self.are_wrong_with(more, rest);
+            return self.are_wrong_with(table, more, rest);
         }
-        self.are_wrong_with(chosen, rest) && self.are_wrong_with(more, rest)
+        self.are_wrong_with(table, chosen, rest) && self.are_wrong_with(table, more, rest)
     }
 
     // The group has a rival that is surely wrong; the first one is looked at first.
-    fn has_wrong(&self, group: ClubSet) -> bool
+    fn has_wrong(&self, table: &mut [Option<Wrongs>; 32], group: ClubSet) -> bool
         requires groups { IsGroups self.now }
+        requires kept { IsLeadTable self.now table.old }
         requires among { AreAmong group self.now.able }
         requires first { has_club (clubs_in group) self.now.first ≡ true }
-        ensures { (zone : List Literal) → AreGroupsIn self.now zone
+        ensures value { (zone : List Literal) → AreGroupsIn self.now zone
             → result ≡ group_is_wrong self.now zone (clubs_in group) }
+        ensures kept { IsLeadTable self.now table.new }
     {
-        self.is_wrong(&self.wrongs, self.first, group) || self.has_other_wrong(group, group)
+        self.is_wrong_by(table, self.first, group) || self.has_other_wrong(table, group, group)
     }
 
-    fn has_other_wrong(&self, group: ClubSet, left: ClubSet) -> bool
+    fn has_other_wrong(
+        &self,
+        table: &mut [Option<Wrongs>; 32],
+        group: ClubSet,
+        left: ClubSet,
+    ) -> bool
         requires groups { IsGroups self.now }
+        requires kept { IsLeadTable self.now table.old }
         requires among { AreAmong group self.now.able }
         requires left { AreAmong left group }
-        ensures { (zone : List Literal) → AreGroupsIn self.now zone
+        ensures value { (zone : List Literal) → AreGroupsIn self.now zone
             → result ≡ list_any (wrong_in self.now zone (clubs_in group)) (clubs_in left) }
+        ensures kept { IsLeadTable self.now table.new }
     {
         if left.is_empty() {
             return false;
         }
         let rival = left.first_club();
         let rest = left.without(ClubSet::single(rival));
+        self.is_wrong_by(table, rival, group) || self.has_other_wrong(table, group, rest)
+    }
+
+    fn is_wrong_by(&self, table: &mut [Option<Wrongs>; 32], rival: u8, group: ClubSet) -> bool
+        requires groups { IsGroups self.now }
+        requires kept { IsLeadTable self.now table.old }
+        requires among { AreAmong group self.now.able }
+        requires rival { has_club (clubs_in group) rival ≡ true }
+        ensures value { (zone : List Literal) → AreGroupsIn self.now zone
+            → result ≡ wrong_in self.now zone (clubs_in group) rival }
+        ensures kept { IsLeadTable self.now table.new }
+    {
+        match &table[rival as usize] {
+            Some(wrongs) => self.is_wrong(wrongs, rival, group),
+            None => self.is_wrong_at_first(table, rival, group),
+        }
+    }
+
+    // It has not been looked at before.
+    fn is_wrong_at_first(&self, table: &mut [Option<Wrongs>; 32], rival: u8, group: ClubSet) -> bool
+        requires groups { IsGroups self.now }
+        requires kept { IsLeadTable self.now table.old }
+        requires among { AreAmong group self.now.able }
+        requires rival { has_club (clubs_in group) rival ≡ true }
+        ensures value { (zone : List Literal) → AreGroupsIn self.now zone
+            → result ≡ wrong_in self.now zone (clubs_in group) rival }
+        ensures kept { IsLeadTable self.now table.new }
+    {
         let wrongs = Wrongs::of(self.tie, self.able, self.club, rival);
-        self.is_wrong(&wrongs, rival, group) || self.has_other_wrong(group, rest)
+        table[rival as usize] = Some(wrongs);
+        self.is_wrong(&wrongs, rival, group)
     }
 
     fn is_wrong(&self, wrongs: &Wrongs, rival: u8, group: ClubSet) -> bool

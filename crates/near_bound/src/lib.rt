@@ -4,6 +4,7 @@
 //! here. No list of scores is ever made, and no call takes memory.
 #![tactic(auto)]
 
+mod all_ends;
 mod both;
 mod fit;
 mod groups;
@@ -12,8 +13,10 @@ mod margin;
 mod match_left;
 mod near;
 mod points;
+mod sides;
 mod surely;
 mod tie;
+mod wrongs;
 mod zone_left;
 
 pub use match_left::MatchLeft;

@@ -1,10 +1,11 @@
 //! What is left of a match.
 
-ghost use Rattle.std.specs.Prelude.{◌≡◌, true, false, ◌&&◌, nat_le, MatchOption};
+ghost use Rattle.std.specs.Prelude.{◌≡◌, true, false, ◌&&◌, nat_le, List, MatchOption};
 ghost use Rattle.league_core.specs.declared.season.Score.{Score};
 ghost use Rattle.league_core.specs.search.Options.{is_home_win, is_draw, is_away_win};
+ghost use Rattle.league_core.specs.search.Options.{has_option};
 ghost use Rattle.near_bound.specs.inside.MatchesLeft.{is_score_left, turned, IsWorstIfAny};
-ghost use Rattle.near_bound.specs.inside.MatchesLeft.{IsWorstFor, IsNothing};
+ghost use Rattle.near_bound.specs.inside.MatchesLeft.{IsWorstFor, IsNothing, IsLeftOf, HasAny};
 
 use league_core::Score;
 
@@ -38,6 +39,33 @@ impl MatchLeft {
         } else {
             self.worst_at_home(many)
         }
+    }
+
+    /// Some score is left.
+    pub(crate) fn has_score(&self) -> bool
+        ensures { (options : List Score) → IsLeftOf self.now options
+            → result ≡ has_option options }
+    {
+        self.worst_at_home(false).is_some()
+    }
+
+    /// A win of the home side is left.
+    pub(crate) fn has_home_win(&self) -> bool
+        ensures { HasAny self.now is_home_win result }
+    {
+        self.lowest_win(false).is_some()
+    }
+
+    pub(crate) fn has_draw(&self) -> bool
+        ensures { HasAny self.now is_draw result }
+    {
+        self.worst_draw(false).is_some()
+    }
+
+    pub(crate) fn has_away_win(&self) -> bool
+        ensures { HasAny self.now is_away_win result }
+    {
+        self.highest_defeat(false).is_some()
     }
 
     // The scores with their sides exchanged.

@@ -4,10 +4,10 @@ ghost use Rattle.std.specs.Prelude.{◌≡◌, ◌≤◌, ◌+ℤ◌, ◌-ℤ◌
 ghost use Rattle.std.specs.Prelude.{◌<◌, true};
 ghost use Rattle.league_core.specs.declared.season.Score.{Score};
 ghost use Rattle.league_core.specs.declared.zone.Literal.{Literal};
-ghost use Rattle.league_core.specs.game.Sums as sums;
 ghost use Rattle.league_core.specs.search.PointRanges.{range_of, range_from, points_together};
 ghost use Rattle.near_laws.specs.Fits.{range_in, leaves_points};
 ghost use Rattle.near_bound.specs.inside.MatchesLeft.{IsLeftOf};
+ghost use Rattle.near_bound.specs.inside.Points as ends;
 ghost use Rattle.near_bound.specs.inside.Points.{range_of_ends, side_points, AreEndsWithin};
 ghost use Rattle.near_bound.specs.inside.Points.{AreEndsOfClub};
 ghost use Rattle.near_bound.specs.inside.ZonesLeft.{AreLeftOf, IsZoneLeft, StandsFor};
@@ -58,34 +58,6 @@ impl PointEnds {
     }
 }
 
-/// The points of a club in the zone, deductions taken off. Clubs count from 0.
-pub fn ends_of(left: &ZoneLeft, club: u8) -> PointEnds
-    requires left { IsZoneLeft left.now }
-    requires in_range { club < length left.now.sheet.now.clubs }
-    ensures range { (zone : List Literal) → StandsFor left.now zone → range_of_ends result
-        ≡ range_in left.now.sheet.now left.now.season.now zone club }
-    ensures within { AreEndsOfClub result }
-{
-    let won = won_by(left.sheet.fixtures.as_slice(), left.matches, club);
-    won.less(left.season.deducted(club))
-}
-
-// The match points of a club over all fixtures.
-fn won_by(fixtures: &[Fixture], matches: &[MatchLeft], club: u8) -> PointEnds
-    requires many { length matches.now ≡ length fixtures.now }
-    requires few { length fixtures.now ≤ 600 }
-    ensures range { (options : List (List Score)) → AreLeftOf matches.now options
-        → range_of_ends result
-        ≡ range_from (points_together (club ∷ [])) fixtures.now options }
-    ensures within { AreEndsWithin (pos 1800) result }
-{
-    let mut won = PointEnds::NONE;
-    for i in 0..fixtures.len() {
-        won = won.plus(points_left(&matches[i], fixtures[i], club));
-    }
-    won
-}
-
 /// The match points that a match leaves a club; none if it does not play in it.
 pub fn points_left(left: &MatchLeft, fixture: Fixture, club: u8) -> PointEnds
     ensures range { (options : List Score) → IsLeftOf left.now options
@@ -101,44 +73,50 @@ pub fn points_left(left: &MatchLeft, fixture: Fixture, club: u8) -> PointEnds
     }
 }
 
-// Those that it leaves a side: the worst of what is left for the side, and the worst for the other.
+// Those that it leaves a side, by the outcomes that are left.
 fn points_of_side(left: &MatchLeft, away: bool) -> PointEnds
     ensures range { (options : List Score) → IsLeftOf left.now options
         → range_of_ends result ≡ range_of (side_points away) options }
     ensures within { AreEndsWithin (pos 3) result }
 {
-    match left.worst(away, false) {
-        None => PointEnds::NONE,
-        Some(worst) => match left.worst(!away, false) {
-            None => PointEnds::NONE,
-            Some(best) => ends_at(worst, best, away),
-        },
-    }
-}
-
-fn ends_at(worst: Score, best: Score, away: bool) -> PointEnds
-    ensures least { result.least ≡ side_points away worst }
-    ensures most { result.most ≡ side_points away best }
-{
     if away {
-        PointEnds {
-            least: match_points(worst.away, worst.home),
-            most: match_points(best.away, best.home),
-        }
+        ends_given(left.has_away_win(), left.has_draw(), left.has_home_win())
     } else {
-        PointEnds {
-            least: match_points(worst.home, worst.away),
-            most: match_points(best.home, best.away),
-        }
+        ends_given(left.has_home_win(), left.has_draw(), left.has_away_win())
     }
 }
 
-fn match_points(scored: u8, conceded: u8) -> i32
-    ensures { result ≡ sums.match_points scored conceded true }
+// The points of a win, a draw and a defeat, each of which may come or not.
+fn ends_given(won: bool, drawn: bool, lost: bool) -> PointEnds
+    ensures least { result.least ≡ ends.least_given won drawn lost }
+    ensures most { result.most ≡ ends.most_given won drawn }
 {
-    if scored > conceded {
+    PointEnds {
+        least: least_given(won, drawn, lost),
+        most: most_given(won, drawn),
+    }
+}
+
+fn least_given(won: bool, drawn: bool, lost: bool) -> i32
+    ensures { result ≡ ends.least_given won drawn lost }
+{
+    if lost {
+        0
+    } else if drawn {
+        1
+    } else if won {
         3
-    } else if scored == conceded {
+    } else {
+        0
+    }
+}
+
+fn most_given(won: bool, drawn: bool) -> i32
+    ensures { result ≡ ends.most_given won drawn }
+{
+    if won {
+        3
+    } else if drawn {
         1
     } else {
         0

@@ -1,6 +1,6 @@
--- The near reason: why a zone has no member though matches are open. The points of a rival are
--- forced to be the club's own. Whichever clubs end level with the two, one of them is surely on the
--- wrong side of the club. This reason is this project's own.
+-- The near reason: why a question holds at no member of a zone though matches are open. The points
+-- of a rival are forced to be the club's own. Whichever clubs end level with the two, one of these
+-- is surely on the wrong side of the club. This reason is this project's own.
 use Rattle.std.specs.Prelude.{ℕ, ℤ, Bool, not, ◌&&◌, ◌||◌, ◌==◌, nat_le, int_le, List, [], ◌∷◌}
 use Rattle.std.specs.Prelude.{length, filter}
 use Rattle.std.specs.List.{list_all, list_any}
@@ -56,8 +56,8 @@ are_all_groups_wrong sheet season zone points club rival =
     (groups_with held able)
 
 -- the club and the rival are not both on the points, with everyone where the zone marks it: one of
--- the two cannot have them; or a rival that is sure to have them has no score left for its match
--- with the club; or each group that may form has a wrong rival
+-- the two cannot have them; or this rival, or one that is sure to have them, has no score left for
+-- a match with the club; or each group that may form has a wrong rival
 abbrev pub cannot_both_have : Sheet → Results → List Literal → ℤ → ℕ → ℕ → Bool
 cannot_both_have sheet season zone points club rival =
     not (is_able sheet season zone points club) || not (is_able sheet season zone points rival)

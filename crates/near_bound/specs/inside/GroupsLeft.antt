@@ -1,7 +1,7 @@
 -- Groups of clubs that may form on the points of a tie, and the rivals that are surely on the wrong
 -- side in them.
 use Rattle.std.specs.Prelude.{◌≡◌, ◌≢◌, ℕ, ◌<◌, Bool, true, false, ◌&&◌, ◌||◌, List, length, Option}
-use Rattle.std.specs.Prelude.{Some, None}
+use Rattle.std.specs.Prelude.{Some, None, slice_index_or, MatchOption}
 use Rattle.league_core.specs.declared.club_set.ClubSet.{ClubSet}
 use Rattle.league_core.specs.declared.zone.Literal.{Literal}
 use Rattle.league_core.specs.game.ClubSets.{clubs_in}
@@ -11,7 +11,7 @@ use Rattle.near_laws.specs.Near.{is_wrong_in}
 use Rattle.near_laws.specs.SureLeads.{leads_surely}
 use Rattle.near_bound.specs.declared.tie.Tie.{Tie}
 use Rattle.near_bound.specs.declared.leads.Leads.{Leads}
-use Rattle.near_bound.specs.declared.groups.Wrongs.{Wrongs}
+use Rattle.near_bound.specs.declared.wrongs.Wrongs.{Wrongs}
 use Rattle.near_bound.specs.declared.groups.Groups.{Groups}
 use Rattle.near_bound.specs.inside.Ties.{IsTie, IsTieIn, fits_of}
 use Rattle.near_bound.specs.inside.PairLeads.{AreLeadsNear, AreLeadsOf, AreLeadsIn, HaveFits}
@@ -58,22 +58,32 @@ pub record RivalsFit (tie : Tie) (able : ClubSet) (club : ℕ) (zone : List Lite
   pub club_fits : HasFit tie zone club
   pub rivals_fit : (rival : ℕ) → has_club (clubs_in able) rival ≡ true → HasFit tie zone rival
 
--- the rivals of a tie, one of them with its leads
+-- each club of the one set is in the other
+abbrev pub AreAmong : ClubSet → ClubSet → Type 0
+AreAmong part whole =
+    (club : ℕ) → has_club (clubs_in part) club ≡ true → has_club (clubs_in whole) club ≡ true
+
+-- able rivals of a tie, some of them held, and one of these
 pub record IsGroups (groups : Groups) : Type 0 where
   pub tie_is : IsTie groups.tie.now
   pub rivals : AreRivals groups.tie.now groups.able groups.club
-  pub first_in : has_club (clubs_in groups.able) groups.first ≡ true
-  pub first_wrongs : AreWrongs groups.tie.now groups.able groups.club groups.first groups.wrongs
+  pub held_in : AreAmong groups.held groups.able
+  pub first_held : has_club (clubs_in groups.held) groups.first ≡ true
+
+-- a club's leads in a table, if they are taken
+abbrev pub wrongs_listed : List (Option Wrongs) → ℕ → Option Wrongs
+wrongs_listed table club = slice_index_or table club None
+
+-- what the table has are a rival's leads
+pub record IsLeadTable (groups : Groups) (table : List (Option Wrongs)) : Type 0 where
+  pub long : length table ≡ 32
+  pub each : (rival : ℕ) → MatchOption (wrongs_listed table rival) (Unit {0})
+      (AreWrongs groups.tie.now groups.able groups.club rival)
 
 -- the zone is of the tie, and its rivals have fit scores
 pub record AreGroupsIn (groups : Groups) (zone : List Literal) : Type 0 where
   pub tie_in : IsTieIn groups.tie.now zone
   pub fit : RivalsFit groups.tie.now groups.able groups.club zone
-
--- each club of the one set is in the other
-abbrev pub AreAmong : ClubSet → ClubSet → Type 0
-AreAmong part whole =
-    (club : ℕ) → has_club (clubs_in part) club ≡ true → has_club (clubs_in whole) club ≡ true
 
 -- the rival is surely wrong in a group
 abbrev pub wrong_in : Groups → List Literal → List ℕ → ℕ → Bool

@@ -47,6 +47,12 @@ abbrev pub LeavesNone : MatchLeft → (Score → Bool) → Type 0
 LeavesNone left passes =
     (score : Score) → is_score_left left score ≡ true → passes score ≡ true → ⊥
 
+-- whether one of them does
+abbrev pub HasAny : MatchLeft → (Score → Bool) → Bool → Type 0
+HasAny left passes true =
+    (score : Score) × (is_score_left left score ≡ true) × (passes score ≡ true)
+HasAny left passes false = LeavesNone left passes
+
 -- of the scores that are left and pass this is the worst for the home side
 pub record IsWorstOf (left : MatchLeft) (many : Bool) (passes : Score → Bool) (worst : Score)
     : Type 0 where
@@ -69,3 +75,9 @@ pub record IsWorstFor (left : MatchLeft) (away many : Bool) (worst : Score) : Ty
 -- no score is left
 abbrev pub IsNothing : MatchLeft → Type 0
 IsNothing left = (score : Score) → is_score_left left score ≡ false
+
+-- no two scores are left
+abbrev pub LeavesOneAtMost : MatchLeft → Type 0
+LeavesOneAtMost left =
+    (score other : Score) → is_score_left left score ≡ true → is_score_left left other ≡ true
+    → score ≡ other

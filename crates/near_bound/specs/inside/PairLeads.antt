@@ -41,25 +41,6 @@ LeadGoesOn values matches options count old new =
     IsLeadSoFar values matches options count old
     → IsLeadSoFar values matches options (count + 1) new
 
--- the lead of two clubs takes a fixture
-abbrev pub TakesPair : Tie → ℕ → ℕ → ℕ → Option Margin → Option Margin → Type 0
-TakesPair tie fixture front back old new =
-    (zone : List Literal) → IsTieIn tie zone → HasFit tie zone front → HasFit tie zone back
-    → LeadGoesOn (margins (worth_among (front ∷ back ∷ [])) record_worths front back)
-    tie.left.now.sheet.now.fixtures (fits_of tie zone (front ∷ back ∷ [])) fixture
-    (lead_by record_parts old) (lead_by record_parts new)
-
--- their leads over all matches take one
-abbrev pub TakesOverall : Tie → ℕ → ℕ → ℕ → Option Margin → Option Margin → Type 0
-TakesOverall tie fixture front back old new =
-    (zone : List Literal) → IsTieIn tie zone → HasFit tie zone front → HasFit tie zone back
-    → LeadGoesOn (margins worth_to first_worths front back) tie.left.now.sheet.now.fixtures
-    (fits_of tie zone (front ∷ back ∷ [])) fixture (lead_by first_parts old)
-    (lead_by first_parts new)
-    × LeadGoesOn (margins worth_to overall_worths front back) tie.left.now.sheet.now.fixtures
-    (fits_of tie zone (front ∷ back ∷ [])) fixture (lead_by overall_parts old)
-    (lead_by overall_parts new)
-
 -- a lead in a table
 abbrev pub kept_lead : List (Option Margin) → ℕ → Option Margin
 kept_lead table club = slice_index_or table club None
@@ -94,35 +75,22 @@ pub record AreLeadsIn (tie : Tie) (able : ClubSet) (front back : ℕ) (zone : Li
       → rival ≢ front → rival ≢ back → lead_by record_parts (kept_lead leads.against rival)
       ≡ lead_against tie.left.now.sheet.now (fits_of tie zone) front back rival
 
--- how they are kept: numbers that are not far from zero
-pub record AreLeadsNear (leads : Leads) : Type 0 where
-  pub pair : IsLeadWithin 400000 leads.pair
-  pub overall : IsLeadWithin 400000 leads.overall
+-- how they are kept: numbers that are this near to zero
+pub record AreLeadsWithin (bound : ℕ) (leads : Leads) : Type 0 where
+  pub pair : IsLeadWithin bound leads.pair
+  pub overall : IsLeadWithin bound leads.overall
   pub long : length leads.against ≡ 32
-  pub against : (club : ℕ) → IsLeadWithin 400000 (kept_lead leads.against club)
+  pub against : (club : ℕ) → IsLeadWithin bound (kept_lead leads.against club)
+
+-- near enough to be added up
+abbrev pub AreLeadsNear : Leads → Type 0
+AreLeadsNear leads = AreLeadsWithin 400000 leads
 
 -- the fixed ranks and the order are the sheet's
 pub record AreLeadsOf (tie : Tie) (front back : ℕ) (leads : Leads) : Type 0 where
   pub rank : leads.rank ≡ neg_ℤ (pos (rank_of tie.left.now.sheet.now front))
       -ℤ neg_ℤ (pos (rank_of tie.left.now.sheet.now back))
   pub order : leads.order ≡ tie.left.now.sheet.now.order
-
--- the lead in the head-to-head of the two alone, in each zone in which both have fit scores
-abbrev pub IsPairLead : Tie → ℕ → ℕ → Option Margin → Type 0
-IsPairLead tie front back lead =
-    (zone : List Literal) → IsTieIn tie zone → HasFit tie zone front → HasFit tie zone back
-    → lead_by record_parts lead
-    ≡ pair_lead tie.left.now.sheet.now (fits_of tie zone) front back
-
--- the same over all matches: in the two sums that may come first, and in those that come last
-abbrev pub AreOverallLeads : Tie → ℕ → ℕ → Option Margin → Type 0
-AreOverallLeads tie front back lead =
-    (zone : List Literal) → IsTieIn tie zone → HasFit tie zone front → HasFit tie zone back
-    → (lead_by first_parts lead
-    ≡ first_lead tie.left.now.sheet.now (fits_of tie zone) front back)
-    × (lead_by overall_parts lead
-    ≡ least_lead (margins worth_to overall_worths front back) tie.left.now.sheet.now.fixtures
-    (fits_of tie zone (front ∷ back ∷ [])))
 
 -- what is fit for both
 abbrev pub IsFitForBoth : Tie → ℕ → ℕ → ℕ → MatchLeft → Type 0
@@ -136,23 +104,33 @@ HaveCommonFit tie zone front back =
     have_fit tie.left.now.sheet.now tie.left.now.season.now zone tie.points (front ∷ back ∷ [])
     ≡ true
 
--- the table has, for each able club other than the two, the lead against it
-abbrev pub AreLeadsAgainst : Tie → ClubSet → ℕ → ℕ → List (Option Margin) → Type 0
-AreLeadsAgainst tie able front back table =
-    (zone : List Literal) → IsTieIn tie zone → HaveCommonFit tie zone front back
-    → HasFit tie zone front → HasFit tie zone back
-    → (rival : ℕ) → has_club (clubs_in able) rival ≡ true → HasFit tie zone rival
-    → rival ≢ front → rival ≢ back → lead_by record_parts (kept_lead table rival)
-    ≡ lead_against tie.left.now.sheet.now (fits_of tie zone) front back rival
-
--- the leads by third clubs take a fixture
-abbrev pub TakesAgainst : Tie → ClubSet → ℕ → ℕ → ℕ → List (Option Margin) → List (Option Margin)
+-- the leads by third clubs over so many fixtures, the first ones
+abbrev pub AreAgainstSoFar : Tie → ClubSet → ℕ → ℕ → List Literal → ℕ → List (Option Margin)
     → Type 0
-TakesAgainst tie able fixture front back old new =
-    (zone : List Literal) → IsTieIn tie zone → HaveCommonFit tie zone front back
-    → HasFit tie zone front → HasFit tie zone back
-    → (rival : ℕ) → has_club (clubs_in able) rival ≡ true → HasFit tie zone rival
+AreAgainstSoFar tie able front back zone count table =
+    HaveCommonFit tie zone front back → (rival : ℕ) → has_club (clubs_in able) rival ≡ true
     → rival ≢ front → rival ≢ back
-    → LeadGoesOn (margins (worth_against rival) record_worths front back)
-    tie.left.now.sheet.now.fixtures (fits_of tie zone (front ∷ back ∷ rival ∷ [])) fixture
-    (lead_by record_parts (kept_lead old rival)) (lead_by record_parts (kept_lead new rival))
+    → IsLeadSoFar (margins (worth_against rival) record_worths front back)
+    tie.left.now.sheet.now.fixtures (fits_of tie zone (front ∷ back ∷ rival ∷ [])) count
+    (lead_by record_parts (kept_lead table rival))
+
+-- all leads over them
+pub record AreLeadsSoFar (tie : Tie) (able : ClubSet) (front back : ℕ) (zone : List Literal)
+    (count : ℕ) (leads : Leads) : Type 0 where
+  pub pair : IsLeadSoFar (margins (worth_among (front ∷ back ∷ [])) record_worths front back)
+      tie.left.now.sheet.now.fixtures (fits_of tie zone (front ∷ back ∷ [])) count
+      (lead_by record_parts leads.pair)
+  pub first : IsLeadSoFar (margins worth_to first_worths front back)
+      tie.left.now.sheet.now.fixtures (fits_of tie zone (front ∷ back ∷ [])) count
+      (lead_by first_parts leads.overall)
+  pub overall : IsLeadSoFar (margins worth_to overall_worths front back)
+      tie.left.now.sheet.now.fixtures (fits_of tie zone (front ∷ back ∷ [])) count
+      (lead_by overall_parts leads.overall)
+  pub against : AreAgainstSoFar tie able front back zone count leads.against
+
+-- they take one fixture more
+abbrev pub LeadsTake : Tie → ClubSet → ℕ → ℕ → ℕ → Leads → Leads → Type 0
+LeadsTake tie able front back fixture old new =
+    (zone : List Literal) → IsTieIn tie zone → HaveFits tie able front back zone
+    → AreLeadsSoFar tie able front back zone fixture old
+    → AreLeadsSoFar tie able front back zone (fixture + 1) new

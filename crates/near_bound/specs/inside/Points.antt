@@ -1,23 +1,45 @@
 -- The points that matches leave a club, and the scores that are fit for it.
-use Rattle.std.specs.Prelude.{ℕ, ℤ, pos, neg_ℤ, ◌≤ℤ◌, Bool, true, false}
-use Rattle.std.specs.Prelude.{if◌then◌else◌, List, [], ◌∷◌, filter}
+use Rattle.std.specs.Prelude.{◌≡◌, ℕ, ℤ, pos, neg_ℤ, ◌≤ℤ◌, Bool, true, false}
+use Rattle.std.specs.Prelude.{if◌then◌else◌, List, [], ◌∷◌, filter, slice_index_or}
 use Rattle.league_core.specs.declared.sheet.Fixture.{Fixture}
 use Rattle.league_core.specs.declared.season.Score.{Score}
 use Rattle.league_core.specs.game.Sums.{match_points}
 use Rattle.league_core.specs.search.Options.{is_home_win, is_draw}
 use Rattle.league_core.specs.search.PointRanges.{Range, range_of, points_together}
 use Rattle.near_laws.specs.Fits.{can_reach}
+use Rattle.near_bound.specs.declared.match_left.MatchLeft.{MatchLeft}
 use Rattle.near_bound.specs.declared.points.PointEnds.{PointEnds}
+use Rattle.near_bound.specs.inside.MatchesLeft.{is_score_left}
 
 -- both ends as a range
 abbrev pub range_of_ends : PointEnds → Range
 range_of_ends ends = record { least = ends.least; greatest = ends.most }
+
+-- a club's points in a table
+abbrev pub ends_listed : List PointEnds → ℕ → PointEnds
+ends_listed table club = slice_index_or table club (record { least = pos 0; most = pos 0 })
 
 -- the match points of the away side, or of the home side
 abbrev pub side_points : Bool → Score → ℤ
 side_points away score =
     if away then match_points score.away score.home true
     else match_points score.home score.away false
+
+-- whether a score that is left gives a side so many
+abbrev pub MayGive : MatchLeft → Bool → ℤ → Bool → Type 0
+MayGive left away points true =
+    (score : Score) × (is_score_left left score ≡ true) × (side_points away score ≡ points)
+MayGive left away points false =
+    (score : Score) → is_score_left left score ≡ true → side_points away score ≡ points → ⊥
+
+-- the least points of a win, a draw and a defeat, each of which may come or not; none if none may
+abbrev pub least_given : Bool → Bool → Bool → ℤ
+least_given won drawn lost =
+    if lost then pos 0 else if drawn then pos 1 else if won then pos 3 else pos 0
+
+-- the most
+abbrev pub most_given : Bool → Bool → ℤ
+most_given won drawn = if won then pos 3 else if drawn then pos 1 else pos 0
 
 -- of three answers the one for the score's outcome
 abbrev pub by_outcome : Bool → Bool → Bool → Score → Bool

@@ -6,7 +6,7 @@ use Rattle.league_core.specs.game.Sums.{has_club}
 use Rattle.near_laws.specs.Groups.{groups_with}
 use Rattle.near_laws.specs.Near.{has_wrong}
 use Rattle.near_bound.specs.inside.Ties.{fits_of}
-use Rattle.near_bound.proofs.AbleRivalLemmas.{none_held_not_wrong, all_groups_are, from_nothing}
+use Rattle.near_bound.proofs.AbleRivalLemmas.{none_held_not_wrong, all_groups_are, groups_are}
 use Rattle.near_bound.proofs.AbleRivalLemmas.{groups_in, able_rivals_fit}
 use Rattle.near_bound.proofs.both.are_all_groups_wrong.Goals as goal
 
@@ -21,11 +21,11 @@ returns-then-len-le-MOST_LOOSE c = λ zone is own.
     let made = c.new.ensures in
     let wrong = list_all (has_wrong tie.left.now.sheet.now (fits_of tie zone) zone c.args.club)
     (groups_with (has_club (clubs_in c.args.held)) (clubs_in c.args.able)) in
-    c.are_wrong_with.ensures zone
+    c.are_all_wrong.ensures zone
     (groups_in c.new.result tie c.args.club c.args.able zone made.tie made.club made.able is
     (able_rivals_fit tie c.args.able c.args.club zone c.requires.able is own))
-    ∙ from_nothing c.new.result tie c.args.club c.args.able c.args.held c.empty.result zone
-    made.tie made.club made.held c.empty.ensures
+    ∙ groups_are c.new.result tie c.args.club c.args.able c.args.held zone made.tie made.club
+    made.able made.held
     ∙ ap (λ b. b && wrong)
     (sym (le-leb c.len.result 8 c.if-len-le-MOST_LOOSE.true) ∙ ap (λ n. nat_le n 8) c.len.ensures)
     ∙ all_groups_are tie c.args.able c.args.held c.without.result c.args.club c.args.rival zone

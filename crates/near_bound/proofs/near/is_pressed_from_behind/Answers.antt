@@ -1,20 +1,23 @@
 use Rattle.std.proofs.Common.{◌≡◌, ◌&&◌, ◌∷◌, [], int_le, sym, ap, ◌∙◌, arith, to_z, of_z, w32}
 use Rattle.std.proofs.lemmas.Int.{ints}
 use Rattle.league_core.specs.search.PointRanges.{Range, own_most, least_points_of}
+use Rattle.near_bound.specs.inside.Points.{ends_listed}
 use Rattle.near_bound.proofs.near.is_pressed_from_behind.Goals as goal
 
 pub returns-then-has : goal.returns-then-has
 unfolding least_points_of
 returns-then-has c = λ zone stands.
     let left = c.args.left.now in
-    let within = c.ends_of.ensures.within in
+    let within = c.requires.ends.near c.args.rival c.requires.in_range in
+    let its = ends_listed c.args.ends.now c.args.rival in
     let own_is : to_z w32 (of_z w32 c.own_most.result) ≡ c.own_most.result =
     omega (arith, ints, c.own_most.type_inv) in
-    let least_is : to_z w32 (of_z w32 c.ends_of.result.least) ≡ c.ends_of.result.least =
+    let least_is : to_z w32 (of_z w32 its.least) ≡ its.least =
     omega (arith, ints, within.least, within.in_order, within.most) in
     (λ i. int_le (own_is i) (least_is i))
     ∙ (λ i. int_le (c.own_most.ensures zone stands i)
-    (ap (λ (r : Range). r.least) (c.ends_of.ensures.range zone stands) i))
+    (ap (λ (r : Range). r.least)
+    (c.requires.ends.range zone stands c.args.rival c.requires.in_range) i))
     ∙ ap (λ b. b && int_le
     (own_most left.sheet.now left.season.now c.args.question.now zone)
     (least_points_of left.sheet.now left.season.now zone (c.args.rival ∷ [])))

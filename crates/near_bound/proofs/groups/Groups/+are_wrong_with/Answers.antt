@@ -19,11 +19,14 @@ are_wrong_with-requires t c =
       omega (arith, ap (length {A = ℕ}) splits, c.decreases),
       (
         c.requires.groups,
-        goes_with c.args.self.now c.args.chosen c.with_if-more.result c.args.left
-            c.without-rest.result
-            c.first_club-club.result c.requires.go_on splits c.with_if-more.ensures
-            (rest_after c.args.left c.single.result c.without-rest.result c.first_club-club.result
-            c.first_club-club.ensures.least c.single.ensures c.without-rest.ensures),
+        (
+          c.requires.kept,
+          goes_with c.args.self.now c.args.chosen c.with_if-more.result c.args.left
+              c.without-rest.result
+              c.first_club-club.result c.requires.go_on splits c.with_if-more.ensures
+              (rest_after c.args.left c.single.result c.without-rest.result c.first_club-club.result
+              c.first_club-club.ensures.least c.single.ensures c.without-rest.ensures),
+        ),
       ),
     )
 
@@ -35,8 +38,11 @@ are_wrong_with-requires-2 t c =
       omega (arith, ap (length {A = ℕ}) splits, c.decreases),
       (
         c.requires.groups,
-        goes_without c.args.self.now c.args.chosen c.args.left c.without-rest.result
-            c.first_club-club.result c.requires.go_on splits (sym c.has.ensures ∙ c.if-has.false),
+        (
+          c.requires.kept,
+          goes_without c.args.self.now c.args.chosen c.args.left c.without-rest.result
+              c.first_club-club.result c.requires.go_on splits (sym c.has.ensures ∙ c.if-has.false),
+        ),
       ),
     )
 
@@ -48,16 +54,19 @@ are_wrong_with-requires-then-are_wrong_with t c =
       omega (arith, ap (length {A = ℕ}) splits, c.decreases),
       (
         c.requires.groups,
-        goes_with c.args.self.now c.args.chosen c.with_if-more.result c.args.left
-            c.without-rest.result
-            c.first_club-club.result c.requires.go_on splits c.with_if-more.ensures
-            (rest_after c.args.left c.single.result c.without-rest.result c.first_club-club.result
-            c.first_club-club.ensures.least c.single.ensures c.without-rest.ensures),
+        (
+          c.are_wrong_with-2.ensures.kept,
+          goes_with c.args.self.now c.args.chosen c.with_if-more.result c.args.left
+              c.without-rest.result
+              c.first_club-club.result c.requires.go_on splits c.with_if-more.ensures
+              (rest_after c.args.left c.single.result c.without-rest.result c.first_club-club.result
+              c.first_club-club.ensures.least c.single.ensures c.without-rest.ensures),
+        ),
       ),
     )
 
-pub returns-then-has : goal.returns-then-has
-returns-then-has t c = λ zone are.
+pub returns-then-has-clause-value : goal.returns-then-has-clause-value
+returns-then-has-clause-value t c = λ zone are.
     let splits = first_and_rest c.args.left c.single.result c.without-rest.result
     c.first_club-club.result c.first_club-club.ensures.member c.first_club-club.ensures.least
     c.single.ensures c.without-rest.ensures in
@@ -76,15 +85,15 @@ returns-then-has t c = λ zone are.
     let whole = sym (all_of_more test chosen held c.first_club-club.result rest)
     ∙ sym (ap (λ (xs : List ℕ). list_all (λ group. test (chosen ++ group)) (groups_with held xs))
     splits) in
-    c.are_wrong_with.ensures zone are
+    c.are_wrong_with.ensures.value zone are
     ∙ more
     ∙ ap (λ b. (b || list_all (λ group. test (chosen ++ group)) (groups_with held rest))
     && list_all (λ group. test ((chosen ++ c.first_club-club.result ∷ []) ++ group))
     (groups_with held rest)) (sym c.if-has.true ∙ c.has.ensures)
     ∙ whole
 
-pub returns-then-are_wrong_with : goal.returns-then-are_wrong_with
-returns-then-are_wrong_with t c = λ zone are.
+pub returns-then-are_wrong_with-clause-value : goal.returns-then-are_wrong_with-clause-value
+returns-then-are_wrong_with-clause-value t c = λ zone are.
     let splits = first_and_rest c.args.left c.single.result c.without-rest.result
     c.first_club-club.result c.first_club-club.ensures.member c.first_club-club.ensures.least
     c.single.ensures c.without-rest.ensures in
@@ -104,16 +113,16 @@ returns-then-are_wrong_with t c = λ zone are.
     ∙ sym (ap (λ (xs : List ℕ). list_all (λ group. test (chosen ++ group)) (groups_with held xs))
     splits) in
     let without = sym c.if-has.false ∙ c.has.ensures in
-    let fewer = sym c.if-are_wrong_with.true ∙ c.are_wrong_with-2.ensures zone are in
-    c.are_wrong_with-then-are_wrong_with.ensures zone are
+    let fewer = sym c.if-are_wrong_with.true ∙ c.are_wrong_with-2.ensures.value zone are in
+    c.are_wrong_with-then-are_wrong_with.ensures.value zone are
     ∙ more
     ∙ (λ i. (without i || fewer i)
     && list_all (λ group. test ((chosen ++ c.first_club-club.result ∷ []) ++ group))
     (groups_with held rest))
     ∙ whole
 
-pub returns-else-are_wrong_with : goal.returns-else-are_wrong_with
-returns-else-are_wrong_with t c = λ zone are.
+pub returns-else-are_wrong_with-clause-value : goal.returns-else-are_wrong_with-clause-value
+returns-else-are_wrong_with-clause-value t c = λ zone are.
     let splits = first_and_rest c.args.left c.single.result c.without-rest.result
     c.first_club-club.result c.first_club-club.ensures.member c.first_club-club.ensures.least
     c.single.ensures c.without-rest.ensures in
@@ -133,7 +142,7 @@ returns-else-are_wrong_with t c = λ zone are.
     ∙ sym (ap (λ (xs : List ℕ). list_all (λ group. test (chosen ++ group)) (groups_with held xs))
     splits) in
     let without = sym c.if-has.false ∙ c.has.ensures in
-    let fewer = sym c.if-are_wrong_with.false ∙ c.are_wrong_with-2.ensures zone are in
+    let fewer = sym c.if-are_wrong_with.false ∙ c.are_wrong_with-2.ensures.value zone are in
     c.if-are_wrong_with.false
     ∙ (λ i. (without i || fewer i)
     && list_all (λ group. test ((chosen ++ c.first_club-club.result ∷ []) ++ group))

@@ -14,27 +14,30 @@ has_other_wrong-requires t c =
       (
         c.requires.groups,
         (
-          c.requires.among,
-          rest_among c.args.left c.single.result c.without-rest.result c.args.group
-              c.without-rest.ensures c.requires.left,
+          c.is_wrong_by.ensures.kept,
+          (
+            c.requires.among,
+            rest_among c.args.left c.single.result c.without-rest.result c.args.group
+                c.without-rest.ensures c.requires.left,
+          ),
         ),
       ),
     )
 
-pub returns-then-is_wrong : goal.returns-then-is_wrong
-returns-then-is_wrong t c = λ zone are.
-    c.if-is_wrong.true
+pub returns-then-is_wrong_by-clause-value : goal.returns-then-is_wrong_by-clause-value
+returns-then-is_wrong_by-clause-value t c = λ zone are.
+    c.if-is_wrong_by.true
     ∙ sym (any_member_passes (wrong_in c.args.self.now zone (clubs_in c.args.group))
     (clubs_in c.args.left) c.first_club-rival.result c.first_club-rival.ensures.member
-    (sym (c.is_wrong.ensures zone are) ∙ c.if-is_wrong.true))
+    (sym (c.is_wrong_by.ensures.value zone are) ∙ c.if-is_wrong_by.true))
 
-pub returns-else-is_wrong : goal.returns-else-is_wrong
-returns-else-is_wrong t c = λ zone are.
+pub returns-else-is_wrong_by-clause-value : goal.returns-else-is_wrong_by-clause-value
+returns-else-is_wrong_by-clause-value t c = λ zone are.
     let splits = first_and_rest c.args.left c.single.result c.without-rest.result
     c.first_club-rival.result c.first_club-rival.ensures.member c.first_club-rival.ensures.least
     c.single.ensures c.without-rest.ensures in
     let passes = wrong_in c.args.self.now zone (clubs_in c.args.group) in
-    c.has_other_wrong.ensures zone are
+    c.has_other_wrong.ensures.value zone are
     ∙ ap (λ b. b || list_any passes (clubs_in c.without-rest.result))
-    (sym c.if-is_wrong.false ∙ c.is_wrong.ensures zone are)
+    (sym c.if-is_wrong_by.false ∙ c.is_wrong_by.ensures.value zone are)
     ∙ ap (list_any passes) (sym splits)

@@ -4,9 +4,9 @@ use Rattle.near_bound.specs.inside.GroupsLeft.{wrong_in}
 use Rattle.near_bound.proofs.GroupSetLemmas.{any_member_passes}
 use Rattle.near_bound.proofs.groups.Groups.has_wrong.Goals as goal
 
-pub returns-then-is_wrong : goal.returns-then-is_wrong
-returns-then-is_wrong c = λ zone are.
-    c.if-is_wrong.true
+pub returns-then-is_wrong_by-clause-value : goal.returns-then-is_wrong_by-clause-value
+returns-then-is_wrong_by-clause-value c = λ zone are.
+    c.if-is_wrong_by.true
     ∙ sym (any_member_passes (wrong_in c.args.self.now zone (clubs_in c.args.group))
     (clubs_in c.args.group) c.args.self.now.first c.requires.first
-    (sym (c.is_wrong.ensures zone are) ∙ c.if-is_wrong.true))
+    (sym (c.is_wrong_by.ensures.value zone are) ∙ c.if-is_wrong_by.true))

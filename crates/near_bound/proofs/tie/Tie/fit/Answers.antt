@@ -4,7 +4,7 @@ use Rattle.league_core.specs.declared.sheet.Fixture.{Fixture}
 use Rattle.league_core.specs.search.Options.{options_in}
 use Rattle.near_bound.specs.inside.MatchesLeft.{IsLeftOf}
 use Rattle.near_bound.specs.inside.Points.{range_of_ends, fit_by}
-use Rattle.near_bound.specs.inside.Ties.{ends_listed}
+use Rattle.near_bound.specs.inside.Points.{ends_listed}
 use Rattle.near_bound.proofs.TieLemmas.{fit_is_left}
 use Rattle.near_bound.proofs.tie.Tie.fit.Goals as goal
 

@@ -1,27 +1,27 @@
-use Rattle.std.proofs.Common.{◌∷◌, [], List, length, get_or, sym, ap, ◌∙◌, arith}
+use Rattle.std.proofs.Common.{◌∷◌, [], length, ap, arith}
 use Rattle.std.proofs.lemmas.Int.{ints}
 use Rattle.league_core.specs.declared.sheet.Fixture.{Fixture}
-use Rattle.league_core.specs.search.PointRanges.{points_together, range_of}
+use Rattle.league_core.specs.search.PointRanges.{points_together}
 use Rattle.near_bound.specs.inside.Ties.{fits_of}
 use Rattle.near_bound.proofs.PointLemmas.{points_more, all_points}
 use Rattle.near_bound.proofs.TieLemmas.{length-fit, none_there, some_there, some_everywhere}
 use Rattle.near_bound.proofs.tie.Tie.fit_points.Goals as goal
 
-pub returns-then-not-has_score : goal.returns-then-not-has_score
-returns-then-not-has_score c = λ zone is.
+pub returns-in-None : goal.returns-in-None
+returns-in-None c = λ zone is.
     let tie = c.args.self.now in
     let fits = fits_of tie zone (c.args.club ∷ []) in
     let long = length-fit tie.left.now zone tie.points (c.args.club ∷ []) c.requires.tie.left
     is.stands in
     let same = ap (length {A = Fixture}) c.as_slice-fixtures.ensures in
     none_there fits c.loop-i.i (c.loop-i.invariant.some zone is) (omega (arith, long, same))
-    (sym (c.has_score.ensures (get_or fits c.loop-i.i []) (c.fit-fit.ensures zone is))
-    ∙ c.if-not-has_score.true)
+    (c.in-None.ensures zone is)
 
 pub loop-i-preserved : goal.loop-i-preserved
 loop-i-preserved c =
     let tie = c.args.self.now in
-    let within = c.points_left.ensures.within in
+    let at = c.in-Some.ensures in
+    let within = at.0 in
     let near = c.loop-i.invariant.near in
     let low = c.plus-won.ensures.least in
     let high = c.plus-won.ensures.most in
@@ -31,21 +31,15 @@ loop-i-preserved c =
           let long = length-fit tie.left.now zone tie.points (c.args.club ∷ [])
           c.requires.tie.left is.stands in
           points_more (points_together (c.args.club ∷ [])) tie.left.now.sheet.now.fixtures fits
-          c.loop-i.i c.loop-i.won c.points_left.result c.plus-won.result
+          c.loop-i.i c.loop-i.won c.in-Some.here c.plus-won.result
           (record { home = 0; away = 0 }) (omega (arith, same)) (omega (arith, long, same))
-          (c.loop-i.invariant.sums zone is)
-          (c.points_left.ensures.range (get_or fits c.loop-i.i []) (c.fit-fit.ensures zone is)
-          ∙ ap (λ (fs : List Fixture). range_of (points_together (c.args.club ∷ [])
-          (get_or fs c.loop-i.i (record { home = 0; away = 0 }))) (get_or fits c.loop-i.i []))
-          c.as_slice-fixtures.ensures) low high;
+          (c.loop-i.invariant.sums zone is) (at.1 zone is).1 low high;
       some = λ zone is.
           let fits = fits_of tie zone (c.args.club ∷ []) in
           let long = length-fit tie.left.now zone tie.points (c.args.club ∷ [])
           c.requires.tie.left is.stands in
-          some_there fits c.loop-i.i (c.loop-i.invariant.some zone is)
-          (omega (arith, long, same))
-          (sym (c.has_score.ensures (get_or fits c.loop-i.i []) (c.fit-fit.ensures zone is))
-          ∙ c.if-not-has_score.false);
+          some_there fits c.loop-i.i (c.loop-i.invariant.some zone is) (omega (arith, long, same))
+          (at.1 zone is).0;
       near = record {
         least = omega (arith, ints, near.least, within.least);
         in_order = omega (arith, ints, near.in_order, within.in_order);

@@ -1,0 +1,10 @@
+use Rattle.std.proofs.Common.{Bool, false, sym, subst}
+use Rattle.league_core.specs.search.Options.{is_away_win}
+use Rattle.near_bound.specs.inside.MatchesLeft.{HasAny}
+use Rattle.near_bound.proofs.OutcomeLemmas.{any_of}
+use Rattle.near_bound.proofs.match_left.MatchLeft.has_away_win.Goals as goal
+
+pub returns : goal.returns
+returns c =
+    subst (λ (b : Bool). HasAny c.args.self.now is_away_win b) (sym c.is_some.ensures)
+    (any_of c.args.self.now false is_away_win c.highest_defeat.result c.highest_defeat.ensures)
