@@ -148,13 +148,17 @@ class AnswerTests(unittest.TestCase):
         done = league("ask", "--rows", "--ask", "4", "--budget", "1", data=data)
         self.assertIn(b"are unsettled (the budget was 1)", done.stderr)
 
-    def test_with_many_open_matches_scores_are_not_asked_again_and_verdicts_are(self) -> None:
+    def test_with_many_open_matches_the_budget_to_ask_again_is_less(self) -> None:
+        for left, budget in ((1, "50,000"), (2, "2,000"), (8, "2,000")):
+            data = "\n".join([*double_round(left, 1, 1)[0], "ask", ""]).encode()
+            once = league("ask", "--rows", "--budget", budget.replace(",", ""), data=data).stdout
+            done = league("ask", "--rows", data=data)
+            self.assertIn(f"with the budget {budget}".encode(), done.stderr)
+            self.assertEqual(done.stdout, once)
+
+    def test_with_many_open_matches_scores_are_not_asked_again(self) -> None:
         for left, says in ((8, True), (9, False)):
             data = "\n".join([*double_round(left, 1, 1)[0], "ask", ""]).encode()
-            once = league("ask", "--rows", "--budget", "50000", data=data).stdout
-            done = league("ask", "--rows", data=data)
-            self.assertIn(b"with the budget 50,000", done.stderr)
-            self.assertEqual(done.stdout, once)
             one_line = b"".join(row + b"\n" for row in data.splitlines()
                                 if not row.startswith(b"line,") or row == b"line,1")
             done = league("scores", "--rows", data=one_line)

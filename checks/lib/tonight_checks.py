@@ -135,6 +135,16 @@ class ProgramTests(Case):
         self.assertEqual(done.returncode, 3)
         self.assertIn("line 7: `result,9,0,0`: There is no fixture 9", done.stderr.decode())
 
+    def test_what_is_decided_now_is_so_given_any_outcome(self) -> None:
+        self.program.answers("decide", TINY_ROWS.split("verdict,1,B")[0] + "verdict,1,B,lost\n")
+        self.program.answers("table", TABLE_ROWS)
+        self.program.answers("whatif", "".join(
+            f"when,0,1,{outcome}\nverdict,1,A,clinched\nverdict,1,B,unsettled\n"
+            for outcome in ("home", "draw", "away")))
+        rows = self.told("tonight", "--rows", data=TINY)
+        self.assertEqual(rows.count("verdict,1,B,lost"), 3)
+        self.assertNotIn("unsettled", self.told("tonight", data=TINY))
+
     def test_words_that_are_unsettled(self) -> None:
         self.program.answers("verdicts", TINY_ROWS)
         self.program.answers("table", TABLE_ROWS)

@@ -13,6 +13,7 @@ from .asking import Outcome
 from .explain import first_screen, viewed
 from .front import add_budget_argument, add_front_arguments, answered
 from .given import Given
+from .modes import DECIDE
 
 
 def add_arguments(parser: argparse.ArgumentParser) -> None:
@@ -25,7 +26,7 @@ def add_arguments(parser: argparse.ArgumentParser) -> None:
 
 def run(arguments: argparse.Namespace) -> int:
     """Writes the answer, and gives the exit status."""
-    return answered(arguments, "verdicts", _told)
+    return answered(arguments, DECIDE, _told)
 
 
 def _told(given: Given, outcome: Outcome, path: str) -> str:

@@ -3,18 +3,18 @@
 from __future__ import annotations
 
 from .answers import Answer, Place
-from .asking import ASK, run_mode, with_budget
+from .asking import ASK, again_budget, run_mode, with_budget
 from .changes import Words, words_of
-from .feeds import read_sheet
+from .feeds import read_input, read_sheet
 from .line_names import asked_lines
 from .lines import line_runs, with_lines_of
+from .modes import DECIDE
 from .progress import Progress
 from .running import report_of
-from .texts import MOST_BUDGET
 
 
 class Asker:
-    """Asks futmax about a season, with one worker: the same question has the same answer."""
+    """Asks futmax about a season, by one thread: the same question has the same answer."""
 
     def __init__(self, path: str, sheet: bytes) -> None:
         self.path = path
@@ -39,10 +39,12 @@ class Asker:
         return dict(sorted(known.items(), key=lambda item: item[0][0]))
 
     def _again(self, run: list[int], known: Words, events: list[bytes]) -> Words:
-        """The unsettled words with the greatest budget."""
-        if self.sheet.budget == MOST_BUDGET:
+        """The unsettled words with a greater budget, where it does not take long."""
+        season = read_input(b"".join([self.data, *events, ASK])).season_at(0)
+        budget = again_budget(self.path, DECIDE, len(season.open_fixtures(self.sheet)))
+        if self.sheet.budget >= budget:
             return {}
-        words = self._words(run, MOST_BUDGET, events)
+        words = self._words(run, budget, events)
         return {mark: word for mark, word in words.items() if known[mark] == "unsettled"}
 
     def inputs(self, events: list[bytes]) -> list[bytes]:
@@ -52,7 +54,7 @@ class Asker:
     def _words(self, lines: list[int], budget: int, events: list[bytes]) -> Words:
         """The words of some lines."""
         sheet = with_lines_of(with_budget(self.data, budget), lines)
-        return words_of(self._ask("verdicts", sheet, events).verdicts)
+        return words_of(self._ask(DECIDE, sheet, events).verdicts)
 
     def table(self, events: list[bytes]) -> list[Place]:
         """The table after these events."""

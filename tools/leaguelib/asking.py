@@ -14,15 +14,18 @@ from .feeds import Input, read_input
 from .given import Given
 from .line_names import asked_lines
 from .lines import joined_answer, line_runs, with_lines_of
+from .modes import DECIDE, known_mode, mode_words
 from .records import Refused, record_of, row_text
 from .running import Run, ask_lines, front_of, report_of, run_program
 from .stopped import Stop, stop_of, whole_report
-from .texts import MOST_BUDGET, Season, Sheet
+from .texts import MOST_BUDGET, USUAL_BUDGET, Season, Sheet
 
-ONE_WORKER = ("--workers", "1")
-# with the greatest budget an ask for verdicts takes about half a second at most, however many
-# matches are open; one for scores two or three with so many, and with more it is not asked again
+# with so many matches open at most, an ask for scores takes two or three seconds with the greatest
+# budget; with more it is not asked again
 MOST_OPEN_OF_SCORES = 80
+# with so many matches open at most, an ask for verdicts takes a fifth of a second with the greatest
+# budget; with more it may take a minute, and settles little beyond the usual one
+MOST_OPEN_OF_VERDICTS = 12
 # ten matches asked about one by one take about eight seconds with so many open at most; with more
 # they are asked about again with a budget that takes five
 FEW_OPEN = 60
@@ -59,8 +62,8 @@ class Outcome:
 
 
 def run_mode(path: str, mode: str, data: bytes, *words: str) -> Run:
-    """Runs a mode of the program with one worker; trees after scores are left out."""
-    run = run_program(path, [mode, *ONE_WORKER, *words], data)
+    """Runs a mode of the program by one thread; trees after scores are left out."""
+    run = run_program(path, mode_words(known_mode(path, mode), *words), data)
     if mode != "scores":
         return run
     rows = [row for row in run.output.split(b"\n") if not row.startswith(b"[")]
@@ -190,14 +193,22 @@ def greater_budget(sheet: Sheet, season: Season) -> int:
 
 
 def _again(path: str, mode: str, given: Given, league: Input, ask: Asked) -> Asked:
-    """The ask with the greatest budget, where a row is unsettled and it does not take long."""
-    still = len(ask.season.open_fixtures(league.sheet))
-    is_long = mode == "scores" and still > MOST_OPEN_OF_SCORES
-    if not ask.unsettled or ask.budget == MOST_BUDGET or is_long:
+    """The ask with a greater budget, where a row is unsettled and it does not take long."""
+    budget = again_budget(path, mode, len(ask.season.open_fixtures(league.sheet)))
+    if not ask.unsettled or ask.budget >= budget:
         return ask
-    data = with_budget(with_asks(given.data, league, [ask.position]), MOST_BUDGET)
+    data = with_budget(with_asks(given.data, league, [ask.position]), budget)
     answers, _ = _over_lines(path, mode, data, given, league)
-    return Asked(ask.position, ask.line, ask.season, answers[0], MOST_BUDGET, True)
+    return Asked(ask.position, ask.line, ask.season, answers[0], budget, True)
+
+
+def again_budget(path: str, mode: str, still: int) -> int:
+    """The budget with which a mode is asked again where so many matches are open; 0 if it is not.
+    """
+    if mode == "scores":
+        return MOST_BUDGET if still <= MOST_OPEN_OF_SCORES else 0
+    is_long = known_mode(path, mode) == DECIDE and still > MOST_OPEN_OF_VERDICTS
+    return USUAL_BUDGET if is_long else MOST_BUDGET
 
 
 def budget_note(ask: Asked) -> str:

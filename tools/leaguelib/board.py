@@ -24,6 +24,7 @@ from .front import add_budget_argument
 from .given import Given, add_file_arguments, gather
 from .line_names import LineNames, asked_lines, names_in
 from .lines import line_runs, with_lines_of
+from .modes import DECIDE
 from .news import plain
 from .outlook import ISO_DATE, Outlook, next_matches, outlook
 from .page import page_text
@@ -121,8 +122,7 @@ def board_of(path: str, given: Given, league: Input, position: int,
                   names_in(given.data), days=days_of(given.data, league.sheet), made=_today())
     if not board.lines:
         return board
-    outcome = ask_mode(path, "verdicts", given, list(range(max(0, position - 1), position + 1)),
-                       budget)
+    outcome = ask_mode(path, DECIDE, given, list(range(max(0, position - 1), position + 1)), budget)
     if outcome.stop is not None:
         raise common.Trouble(outcome.stop.message, common.NO_PROGRAM)
     now = outcome.asked[-1]

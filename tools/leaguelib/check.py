@@ -1,6 +1,6 @@
-"""Whether a report of `futmax verdicts --proofs` proves what it says: `league check SHEET FEED
-REPORT`. The last file is the report; or one input has it after the record `proofs`. The second
-checker is asked too, and if the two differ the command says so.
+"""Whether a report of `futmax decide --proofs`, or of `verdicts --proofs`, proves what it says:
+`league check SHEET FEED REPORT`. The last file is the report; or one input has it after the record
+`proofs`. The second checker is asked too, and if the two differ the command says so.
 """
 
 from __future__ import annotations
@@ -14,12 +14,15 @@ from . import common
 from .asking import futmax_statuses, run_mode
 from .files import Joined
 from .given import Given, add_file_arguments, ended, given_of, read_all
+from .modes import DECIDE_CHECK, known_mode
 from .objects import line_of
 from .records import fields_of
 from .report_faults import fault_of, kind_of
 from .running import Run
 from .stopped import Stop, stop_of
 from .wording import counted, paragraph
+
+OLDER = "This futmax is older than the report, and has no mode `decide_check`: build it again. "
 
 
 def add_arguments(parser: argparse.ArgumentParser) -> None:
@@ -34,15 +37,18 @@ def run(arguments: argparse.Namespace) -> int:
     """Has the report checked, says how it went, and gives the exit status."""
     given = given_report(arguments.files)
     with futmax_statuses():
-        done = run_mode(common.program_path(arguments.program), "check", given.data)
+        path = common.program_path(arguments.program)
+        done = run_mode(path, DECIDE_CHECK, given.data)
+        takes_near = known_mode(path, DECIDE_CHECK) == DECIDE_CHECK
     stop = stop_of(done, given)
     if stop is not None and stop.status == 7:
-        stop.message = fault_of(given.data) + stop.message
+        is_older = not takes_near and '"near"' in given.text_of(stop.line)
+        stop.message = (OLDER if is_older else fault_of(given.data)) + stop.message
     row = fields_of(done.output.splitlines()[-1]) if done.output else []
     if stop is None and (len(row) != 3 or row[0] != "accepted"):
         raise common.Trouble("futmax check ended with status 0 and did not say that it accepts: "
                              "it may be of another version. Build it again.", common.OWN_FAULT)
-    is_heard = is_second_agreed(given, done)
+    is_heard = is_second_agreed(given, done, takes_near)
     if arguments.rows:
         common.write_text(done.output.decode("utf-8", "surrogateescape"))
     elif arguments.json:
@@ -54,12 +60,16 @@ def run(arguments: argparse.Namespace) -> int:
     return common.DONE
 
 
-def is_second_agreed(given: Given, done: Run) -> bool:
-    """Whether the second checker, which shares nothing with futmax, was asked and says the same."""
+def is_second_agreed(given: Given, done: Run, takes_near: bool) -> bool:
+    """Whether the second checker, which shares nothing with futmax, was asked and says the same.
+
+    It takes near leaves where the mode of futmax does.
+    """
     path = Path(__file__).resolve().parents[1] / "second_checker"
     if not path.is_file() or done.status not in (0, 2, 3, 7, 8):
         return False
-    second = subprocess.run([sys.executable, str(path)], input=given.data, stdout=subprocess.PIPE,
+    words = [sys.executable, str(path)] + ["--near"] * takes_near
+    second = subprocess.run(words, input=given.data, stdout=subprocess.PIPE,
                             stderr=subprocess.DEVNULL, check=False)
     rows = [text.decode("utf-8", "replace").strip() for text in (done.output, second.stdout)]
     # of a faulty line of sheet or feed the second checker tells no code

@@ -18,6 +18,7 @@ from .asking import Asked, Outcome, ask_mode, position_of
 from .feeds import Input
 from .front import add_budget_argument
 from .given import Given, add_file_arguments, ended, gather
+from .modes import DECIDE
 from .progress import Progress, add_progress_argument
 from .proved import Told, own_report, refusal_of_report
 from .report_faults import kind_of
@@ -118,7 +119,7 @@ def _own_answer(arguments: argparse.Namespace, given: Given,
     league = league_in(given)
     position = position_of(league, arguments.ask)
     asks = list(range(max(0, position - 1), position + 1))
-    outcome = ask_mode(path, "verdicts", given, asks, arguments.budget)
+    outcome = ask_mode(path, DECIDE, given, asks, arguments.budget)
     if outcome.stop is not None:
         raise common.Trouble(outcome.stop.message, common.NO_PROGRAM)
     _test_names(league.sheet, outcome.asked[-1].season, outcome.asked[-1])

@@ -10,6 +10,7 @@ from .answers import Answer
 from .asking import (Asked, Outcome, ask_mode, budget_note, futmax_statuses, league_of,
                      position_of)
 from .given import Given, add_file_arguments, gather
+from .modes import DECIDE
 from .objects import line_of, objects_of
 from .progress import Progress, add_progress_argument
 from .records import row_text
@@ -90,7 +91,7 @@ def wanted_asks(given: Given, mode: str, wanted: int | None,
     if league is None or (wanted is None and not is_for_people):
         return None
     position = position_of(league, wanted)
-    has_earlier = is_for_people and mode == "verdicts" and position > 0
+    has_earlier = is_for_people and mode == DECIDE and position > 0
     return [position - 1, position] if has_earlier else [position]
 
 

@@ -32,8 +32,8 @@ def add_arguments(parser: argparse.ArgumentParser) -> None:
     parser.add_argument("--sheet-only", action="store_true",
                         help="the files hold a sheet alone: expect no feed")
     parser.add_argument("--mode", default="verdicts",
-                        choices=("verdicts", "whatif", "table", "scores", "check", "save",
-                                 "resume"),
+                        choices=("verdicts", "decide", "whatif", "table", "scores", "check",
+                                 "decide_check", "save", "resume"),
                         help="the mode in which futmax is to be run (verdicts)")
 
 
@@ -67,7 +67,7 @@ def looked_at(files: list[tuple[str, bytes]], is_sheet_only: bool = False,
 
 def look(data: bytes, is_sheet_only: bool = False, mode: str = "verdicts") -> Outcome:
     """Looks at a whole input in UTF-8; in the mode `check` the report after `proofs` is not."""
-    takes_proofs = mode == "check"
+    takes_proofs = mode in ("check", "decide_check")
     outcome = Outcome(refused=refusal_of(data, mode), league_line=_league_line(data))
     if mode == "resume":
         data = without_saved(data)
@@ -111,7 +111,7 @@ def _league_line(data: bytes) -> int:
 def refusal_of(data: bytes, mode: str = "verdicts") -> Refused | None:
     """The line at which the program stops in a mode, if it does."""
     try:
-        league = read_input(data, mode in ("check", "resume"), mode == "whatif")
+        league = read_input(data, mode in ("check", "decide_check", "resume"), mode == "whatif")
         if mode == "resume":
             bad = _bad_save(league, data)
             if bad:

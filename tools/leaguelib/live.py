@@ -19,6 +19,7 @@ from .aliases import add_alias_argument, read_aliases
 from .bookkeeper import Bookkeeper
 from .evening import Evening
 from .livelog import LiveLog
+from .modes import DECIDE
 from .onair import Live
 
 
@@ -28,20 +29,23 @@ def add_arguments(parser: argparse.ArgumentParser) -> None:
     parser.add_argument("log", metavar="LOG", help="the feed so far, kept; made if it is missing")
     parser.add_argument("--rows", action="store_true",
                         help="for programs: answer with the rows of futmax, echo nothing")
-    parser.add_argument("--mode", default="verdicts", choices=("verdicts", "table", "scores"),
-                        help="with --rows: what an ask answers (verdicts)")
+    parser.add_argument("--mode", choices=("decide", "verdicts", "table", "scores"),
+                        help="with --rows: what an ask answers (decide; verdicts with --workers)")
     parser.add_argument("--proofs", action="store_true", help="with --rows: ask for proofs")
-    parser.add_argument("--workers", type=int, metavar="N", default=1,
-                        help="threads, 1 to 8 (1: the same lines, the same words)")
+    parser.add_argument("--workers", type=int, metavar="N",
+                        help="verdicts by so many threads, 1 to 8; without it the same lines have "
+                             "the same words")
     add_alias_argument(parser)
     parser.add_argument("--program", metavar="PATH", help="the program futmax")
 
 
 def run(arguments: argparse.Namespace) -> int:
     """Runs until the end of standard input, or until `quit`."""
-    if not arguments.rows and (arguments.mode != "verdicts" or arguments.proofs):
+    if not arguments.rows and (arguments.mode in ("table", "scores") or arguments.proofs):
         raise common.Trouble("--mode and --proofs need --rows: their answers are rows",
                              common.BAD_WORDS)
+    arguments.mode = arguments.mode or ("verdicts" if arguments.workers else DECIDE)
+    arguments.workers = arguments.workers or 1
     sheet = common.read_bytes(arguments.sheet)
     log = LiveLog(arguments.log)
     live = None

@@ -24,11 +24,13 @@ from .line_names import asked_lines
 from .lines import line_runs, with_lines_of
 from .many_asks import DAYS, asked_feed, front_of, moments_of
 from .many_list import Task, plain
+from .modes import DECIDE, OLDER, mode_words
 from .records import Refused, count_lines, fields_of, records_of
+from .running import ENDINGS
 from .words import words_for
 
 ROW = re.compile(rb"\n([avfu][^\n]*)")
-FORM = 1
+FORM = 2
 SET_PIPE_BYTES = 1031  # Linux; F_SETPIPE_SZ in Python from 3.10 on
 PIPE_BYTES = 1 << 20
 LEAST_PAUSE, MOST_PAUSE = 0.0003, 0.002
@@ -181,8 +183,9 @@ def _reads(pipe: BinaryIO) -> Iterator[bytes]:
         pause = min(2 * pause, MOST_PAUSE)
 
 
-def rows_of(program: str, data: bytes) -> Iterator[bytes]:
-    """The rows of a run with one worker, without finishes; raises `Trouble` if it ends badly.
+def rows_of(program: str, data: bytes, mode: str = DECIDE) -> Iterator[bytes]:
+    """The rows of a run by one thread, without finishes; raises `Trouble` if it ends badly. If the
+    program does not know the mode it is run once more in the older one.
 
     The program writes each row by itself, and most are finishes: a reader that wakes for each takes
     as long as the program, and a file takes longer to write than a pipe. So what is there is read
@@ -193,7 +196,7 @@ def rows_of(program: str, data: bytes) -> Iterator[bytes]:
         source.write(data)
         source.seek(0)
         try:
-            run = subprocess.Popen([program, "verdicts", "--workers", "1"], stdin=source,
+            run = subprocess.Popen([program, *mode_words(mode)], stdin=source,
                                    stdout=subprocess.PIPE, bufsize=0, close_fds=False)
         except (OSError, ValueError) as fault:
             reason = getattr(fault, "strerror", None) or str(fault)
@@ -210,10 +213,12 @@ def rows_of(program: str, data: bytes) -> Iterator[bytes]:
             rest, is_whole = text[end:], read.endswith(b"\n")
     if run.returncode == 0 and is_whole:
         return
+    if run.returncode == 1 and mode in OLDER:
+        yield from rows_of(program, data, OLDER[mode])
+        return
     if last.startswith(b"fault,"):
         raise common.Trouble(f"futmax ended with `{last.decode('utf-8', 'replace')}`, and these "
                              "tools see no fault: it may be an older program.", common.NO_PROGRAM)
-    from .running import ENDINGS  # pylint: disable=import-outside-toplevel
     reason = ENDINGS.get(run.returncode, "it may have been stopped from outside")
     raise common.Trouble(f"futmax ended with status {run.returncode}: {reason}.",
                          common.NO_PROGRAM)

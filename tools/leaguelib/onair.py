@@ -15,6 +15,7 @@ from .evening import Evening, is_event, kind_of
 from .line_names import names_in
 from .linesource import LineSource, Prompt
 from .livelog import LiveLog
+from .modes import known_mode, mode_words
 from .names import shown as quoted
 from .outlook import next_matches, outlook
 from .progress import Progress
@@ -43,12 +44,11 @@ class Live:
 
     def _session(self, arguments: argparse.Namespace, sheet: bytes) -> Session:
         """The program as it is to be run."""
-        command = [self.asker.path, arguments.mode, "--workers", str(arguments.workers)]
-        if arguments.proofs:
-            command.append("--proofs")
+        mode, proofs = known_mode(self.asker.path, arguments.mode), ["--proofs"] * arguments.proofs
+        words = mode_words(mode, *proofs, workers=arguments.workers)
         clubs, lines = len(self.book.sheet.clubs), len(self.book.sheet.lines)
-        return Session(command, sheet, lambda: AnswerEnd(clubs, lines, arguments.mode,
-                                                         arguments.proofs))
+        return Session([self.asker.path, *words], sheet,
+                       lambda: AnswerEnd(clubs, lines, mode, arguments.proofs))
 
     def begin(self) -> None:
         """Starts the program with the events of the log; its asks are not answered again."""

@@ -13,6 +13,7 @@ from typing import Dict, Tuple
 from .answers import OUTCOMES
 from .asking import ASK, greater_budget, run_mode, with_budget
 from .changes import Change, Words, changes_between, words_of
+from .modes import DECIDE
 from .progress import Progress
 from .records import row_text
 from .running import report_of
@@ -52,39 +53,43 @@ def outlook(path: str, sheet: Sheet, season: Season, runs: list[bytes], fixtures
     """What each outcome of these matches decides; the runs are inputs without an ask, by lines."""
     now: Words = {}
     for data in runs:
-        now.update(words_of(report_of(run_mode(path, "verdicts", data + ASK)).answers[-1].verdicts))
-    given, _ = given_words(path, sheet, season, runs, fixtures, is_wanted=is_wanted)
+        now.update(words_of(report_of(run_mode(path, DECIDE, data + ASK)).answers[-1].verdicts))
+    given, _ = given_words(path, sheet, season, runs, fixtures, now, is_wanted=is_wanted)
     return decided(now, given, fixtures)
 
 
 def given_words(path: str, sheet: Sheet, season: Season, runs: list[bytes],
-                fixtures: list[Fixture], budget: int | None = None,
+                fixtures: list[Fixture], now: Words, budget: int | None = None,
                 is_wanted: bool = False) -> tuple[Given, int]:
     """The words given each outcome of each match, and the budget that they were asked with.
 
-    Without a budget of its own a match with unsettled words is asked again with a greater one.
+    What is in or out now stays so. Without a budget of its own a match with unsettled words is
+    asked again with a greater one.
     """
     given: Given = {}
     most = budget or greater_budget(sheet, season)
     used = budget or sheet.budget
     with Progress("what the next matches decide", len(fixtures), is_wanted) as progress:
         for fixture in fixtures:
-            words = _of_match(path, runs, fixture, budget or sheet.budget)
+            words = _of_match(path, runs, fixture, now, budget or sheet.budget)
             if most > sheet.budget and budget is None and _is_unsettled(words):
-                words, used = _of_match(path, runs, fixture, most), most
+                words, used = _of_match(path, runs, fixture, now, most), most
             given.update(words)
             progress.step()
     return given, used
 
 
-def _of_match(path: str, runs: list[bytes], fixture: Fixture, budget: int) -> Given:
+def _of_match(path: str, runs: list[bytes], fixture: Fixture, now: Words, budget: int) -> Given:
     """The words given each outcome of a match, over all lines."""
+    settled = {mark: word for mark, word in now.items() if word in ("clinched", "lost")}
     found: Given = {(fixture.number, outcome): {} for outcome in OUTCOMES}
     for data in runs:
         when = row_text("when", fixture.number).encode("ascii")
         report = report_of(run_mode(path, "whatif", with_budget(data, budget) + when))
         for answer in report.answers:
-            found[answer.fixture, answer.outcome].update(words_of(answer.verdicts))
+            found[answer.fixture, answer.outcome].update(
+                {mark: settled.get(mark, word) if word == "unsettled" else word
+                 for mark, word in words_of(answer.verdicts).items()})
     return found
 
 

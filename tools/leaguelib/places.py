@@ -13,20 +13,19 @@ from dataclasses import dataclass
 
 from . import common
 from .answers import Answer
-from .asking import position_of, run_mode, with_asks, with_budget
+from .asking import again_budget, position_of, run_mode, with_asks, with_budget
 from .feeds import Input
 from .given import Given, add_file_arguments, gather
 from .lines import line_runs, with_lines_of
+from .modes import DECIDE
 from .progress import Progress, add_progress_argument
 from .records import row_text
 from .running import report_of
 from .stopped import league_in
-from .texts import MOST_BUDGET, Season, Sheet
+from .texts import Season, Sheet
 from .wording import counted, limit_phrase, paragraph, shown
 
 RUNS_AT_ONCE = 4
-# with so many matches open at most, all lines are asked with the greatest budget in two seconds
-FEW_OPEN = 20
 
 
 @dataclass(frozen=True)
@@ -70,15 +69,16 @@ def reach_of(path: str, given: Given, league: Input, position: int,
              shows_progress: bool = False) -> list[Reach]:
     """The best and worst place of each club, in the order of the sheet."""
     data = with_asks(given.data, league, [position])
-    is_asked_again = len(league.season_at(position).open_fixtures(league.sheet)) <= FEW_OPEN
+    budget = again_budget(path, DECIDE, len(league.season_at(position).open_fixtures(league.sheet)))
     runs = line_runs(list(range(1, len(league.sheet.clubs))))
     with Progress("places", len(runs), shows_progress) as progress:
 
         def answer_to(lines: list[int]) -> Answer:
             asked = with_lines_of(data, lines)
-            answer = report_of(run_mode(path, "verdicts", asked)).answers[-1]
-            if is_asked_again and any(it.word == "unsettled" for it in answer.verdicts):
-                again = run_mode(path, "verdicts", with_budget(asked, MOST_BUDGET))
+            answer = report_of(run_mode(path, DECIDE, asked)).answers[-1]
+            is_unsettled = any(it.word == "unsettled" for it in answer.verdicts)
+            if is_unsettled and budget > league.sheet.budget:
+                again = run_mode(path, DECIDE, with_budget(asked, budget))
                 answer = report_of(again).answers[-1]
             progress.step()
             return answer

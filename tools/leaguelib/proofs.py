@@ -9,6 +9,7 @@ from __future__ import annotations
 from dataclasses import dataclass
 
 from .answers import Proof, Verdict
+from .proof_levels import level_text
 from .proof_ties import tie_text
 from .proof_words import DoesNotAddUp, from_place, hold, is_are, names_of, up_to_place
 from .texts import Fixture, Season, Sheet
@@ -132,6 +133,8 @@ def reason_text(zone: Zone, verdict: Verdict, is_inside: bool, reason: list) -> 
         text = _high_text(zone, reason[1])
     elif kind == "tie":
         text = tie_text(zone, verdict, is_inside)
+    elif kind == "near":
+        text = _near_text(zone, reason[1])
     else:
         text = f"The points that are supposed of {shown(zone.name(zone.club))} cannot be reached."
     return text + " That cannot be."
@@ -176,6 +179,21 @@ def _high_text(zone: Zone, clubs: list[int]) -> str:
             f"points as {club}. {sum_text(zone, [zone.club], False)} "
             f"{_bound_text(zone, clubs, least, 'at least')} But {sum_text(zone, clubs, True)} "
             f"{zone.points(clubs, True)} is less than {len(clubs) * least}.")
+
+
+def _near_text(zone: Zone, rival: int) -> str:
+    """A rival that would have to end level with the club, and cannot."""
+    is_behind = rival in zone.marked(False)
+    hold(is_behind or rival in zone.marked(True))
+    points, ends = zone.points([zone.club], is_behind), zone.points([rival], not is_behind)
+    hold(ends >= points if is_behind else ends <= points)
+    club, name = shown(zone.name(zone.club)), shown(zone.name(rival))
+    ahead, most = ("not being ahead", "at most") if is_behind else ("being ahead", "at least")
+    text = (f"{name}, {ahead} of {club}, ends with {most} as many points as {club}. "
+            f"{sum_text(zone, [zone.club], is_behind)} {sum_text(zone, [rival], not is_behind)}")
+    if ends != points:
+        return f"{text} {ends} is {'more' if is_behind else 'less'} than {points}."
+    return f"{text} {level_text(zone, points, rival)}"
 
 
 def _bound_text(zone: Zone, clubs: list[int], bound: int, word: str) -> str:

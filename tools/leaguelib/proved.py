@@ -8,6 +8,7 @@ from . import common
 from .answers import Report
 from .asking import run_mode
 from .feeds import Input
+from .modes import DECIDE, DECIDE_CHECK
 from .running import report_of
 
 
@@ -24,9 +25,9 @@ class Told:
 def own_report(program: str | None, data: bytes, league: Input) -> Told:
     """The program's own answer, with proofs where it can write and check them."""
     path = common.program_path(program)
-    written = run_mode(path, "verdicts", data, "--proofs")
+    written = run_mode(path, DECIDE, data, "--proofs")
     if written.status == 1:
-        return Told(league, report_of(run_mode(path, "verdicts", data)), False)
+        return Told(league, report_of(run_mode(path, DECIDE, data)), False)
     report = report_of(written)
     found = refusal_of_report(path, data, written.output)
     note = "" if found in ("accepted", "unknown") else (
@@ -37,7 +38,7 @@ def own_report(program: str | None, data: bytes, league: Input) -> Told:
 def refusal_of_report(path: str, front: bytes, report: bytes) -> str:
     """`accepted`, `unknown` where there is no mode `check`, or why the report is refused."""
     ended = front if front.endswith(b"\n") or not front else front + b"\n"
-    done = run_mode(path, "check", ended + b"proofs\n" + report)
+    done = run_mode(path, DECIDE_CHECK, ended + b"proofs\n" + report)
     rows = [row.split(b",") for row in done.output.splitlines()]
     last = [field.decode("ascii", "replace") for field in rows[-1]] if rows else [""]
     if done.status == 0 and last[0] == "accepted":

@@ -3,7 +3,8 @@
 Files are the sheet and the feed of the night before, the saved text, and further feeds, in this
 order; the end of a further feed without an `ask` counts as one. Asks before the saved text are not
 answered. Nothing in the saved text is believed: each of its reasons is tested again, so a wrong
-file costs time and may leave rows unsettled, and makes none wrong.
+file costs time and may leave rows unsettled, and makes none wrong. The search goes on as in the mode
+`verdicts`; `league ask` settles more rows, by the mode `decide`.
 """
 
 from __future__ import annotations

@@ -2,7 +2,8 @@
 `league resume` goes on: tomorrow, with new results, or on another machine.
 
 Nobody has to believe the file: whoever goes on from it tests each of its reasons again. It pays if
-the budget is long, as in a sheet with `league,NAME,9,50000`, or by --budget.
+the budget is long, as in a sheet with `league,NAME,9,50000`, or by --budget. Its search is that of
+the mode `verdicts`: it may leave rows unsettled that `league ask` settles in the mode `decide`.
 """
 
 from __future__ import annotations

@@ -19,6 +19,7 @@ from .front import add_budget_argument, add_front_arguments, place_of_ask, seaso
 from .given import Given, gather
 from .line_names import asked_lines, names_in
 from .lines import line_runs, with_lines_of
+from .modes import DECIDE
 from .news import days_like, read_day
 from .objects import given_objects, line_of
 from .outlook import MOST_MATCHES, given_words, next_matches
@@ -60,7 +61,7 @@ def run(arguments: argparse.Namespace) -> int:
             wanted = [position_of(league, arguments.ask)]
             fixtures = evening_of(given, league.sheet, league.season_at(wanted[0]),
                                   arguments.round, arguments.matches)
-        outcome = ask_mode(path, "verdicts", given, wanted, arguments.budget)
+        outcome = ask_mode(path, DECIDE, given, wanted, arguments.budget)
         if outcome.stop is not None:
             raise common.Trouble(outcome.stop.message, outcome.stop.status)
         place = place_of_ask(given, outcome.asked[0].line)
@@ -90,7 +91,7 @@ def whens_text(given: Given, path: str, arguments: argparse.Namespace) -> str:
         if entry.kind in ("ask", "when"):
             lines[entry.line - 1] = ASK.rstrip() if entry == whens[0] else b""
     asked = Given(given.whole, b"\n".join(lines), given.paths, True)
-    outcome = ask_mode(path, "verdicts", asked, [0], arguments.budget)
+    outcome = ask_mode(path, DECIDE, asked, [0], arguments.budget)
     if outcome.stop is not None:
         raise common.Trouble(outcome.stop.message, common.NO_PROGRAM)
     fixtures = [outcome.league.sheet.fixture(number)
@@ -132,11 +133,12 @@ def asked_evening(path: str, given: Given, outcome: Outcome, fixtures: list[Fixt
     ask, sheet = season_sheet(outcome)
     front = input_before(given.data, outcome.league, ask.position)
     runs = [with_lines_of(front, run) for run in line_runs(asked_lines(given.data, sheet))]
-    words, budget = given_words(path, sheet, ask.season, runs, fixtures, arguments.budget,
+    now = words_of(ask.answer.verdicts)
+    words, budget = given_words(path, sheet, ask.season, runs, fixtures, now, arguments.budget,
                                 arguments.progress)
     with Progress("the table", 0, arguments.progress):
         table = table_at(path, given, outcome.league, ask.position)
-    return Evening(sheet, ask, place, fixtures, words_of(ask.answer.verdicts), words, budget,
+    return Evening(sheet, ask, place, fixtures, now, words, budget,
                    [row.club for row in table], names_in(given.data), days_of(given.data, sheet))
 
 

@@ -6,7 +6,7 @@ from typing import Dict, Tuple
 
 from .answer_end import AnswerEnd
 from .answers import read_report
-from .asking import ONE_WORKER
+from .modes import DECIDE, known_mode, mode_words
 from .records import fields_of
 from .session import Session
 from .texts import Season, Sheet
@@ -26,8 +26,8 @@ class Trial:
         self.places = places
         self.asks = 0
         self.supposed: Scores = {}
-        self.session = Session([path, "verdicts", *ONE_WORKER], data,
-                               lambda: AnswerEnd(len(sheet.clubs), 1, "verdicts"))
+        self.session = Session([path, *mode_words(known_mode(path, DECIDE))], data,
+                               lambda: AnswerEnd(len(sheet.clubs), 1, DECIDE))
         self.session.start()
 
     def __enter__(self) -> Trial:

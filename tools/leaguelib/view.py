@@ -11,6 +11,7 @@ from .feeds import Input
 from .front import place_of_ask
 from .given import Given
 from .line_names import LineNames, names_in
+from .modes import DECIDE
 from .running import ask_lines, report_of
 from .screen import Marks, limit_text, line_texts, marks_of, state_text, table_text
 from .texts import Season, Sheet
@@ -84,7 +85,7 @@ def _since_day(view: View, path: str, since: str) -> list[str]:
     lines = [b"" if number in later else raw
              for number, raw in enumerate(given.data.split(b"\n"), 1)]
     earlier = Given(given.whole, b"\n".join(lines), given.paths, given.has_own_ask)
-    outcome = ask_mode(path, "verdicts", earlier, [view.ask.position])
+    outcome = ask_mode(path, DECIDE, earlier, [view.ask.position])
     before = marks_of(outcome.asked[0].answer.verdicts)
     unknown = sum(number not in days for number in view.season.scores)
     note = (f"; {counted(unknown, 'match', 'matches')} played on days that are not known "

@@ -42,6 +42,7 @@ class Why:
     most_steps: int = USUAL_STEPS
     wants_proof: bool = False
     scores: dict[int, list[Score]] = field(default_factory=dict)
+    proofs: dict[int, Told] = field(default_factory=dict)
 
     def __post_init__(self) -> None:
         self.points = Points(self.view.sheet, self.view.season)
@@ -61,14 +62,18 @@ class Why:
 
     def proof_of(self, verdict: Verdict) -> Verdict | None:
         """The verdict with its proof, where the program's check accepted it."""
-        told = self.told
-        if told is None:
-            data = with_budget(self.data_for(verdict.places), self.view.ask.budget)
-            told = own_report(self.path, data, self.view.league)
+        told = self.told or self._own_report(verdict.places)
         answer: Answer = told.report.answers[-1 if self.told is None else self.view.ask.position]
         same = [it for it in answer.verdicts
                 if (it.places, it.club, it.word) == (verdict.places, verdict.club, verdict.word)]
         return same[0] if same and told.is_checked and same[0].proofs else None
+
+    def _own_report(self, places: int) -> Told:
+        """The program's own report of this line."""
+        if places not in self.proofs:
+            data = with_budget(self.data_for(places), self.view.ask.budget)
+            self.proofs[places] = own_report(self.path, data, self.view.league)
+        return self.proofs[places]
 
     def score_of(self, club: str, places: int) -> Score | None:
         """The qualification scores of a club, where few matches are open."""

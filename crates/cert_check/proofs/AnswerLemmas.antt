@@ -16,271 +16,186 @@ use Rattle.league_core.specs.declared.zone.Test.TheVariants.{Home, Draw, HomeMos
 use Rattle.league_core.specs.declared.zone.Literal.{Literal}
 use Rattle.league_core.specs.declared.zone.Reason.{Reason}
 use Rattle.league_core.specs.declared.zone.Reason.TheVariants.{Count, Window, Low, High, Tie}
-use Rattle.league_core.specs.declared.tree.TreeNode.{TreeNode}
-use Rattle.league_core.specs.declared.tree.TreeNode.TheVariants as node
 use Rattle.league_core.specs.game.Results.{Results}
 use Rattle.league_core.specs.game.ClubSets.{clubs_in}
 use Rattle.league_core.specs.search.Zones.{with_test, marked_before, marked_after, is_of_rival}
 use Rattle.league_core.specs.search.Options.{has_finish}
 use Rattle.league_core.specs.search.Reasons.{has_member, has_reason, refutes}
-use Rattle.league_core.specs.search.Trees.{Tree, open_leaf, lent_leaf, refuted_leaf, branch}
-use Rattle.league_core.specs.search.Trees.{NodesMeet, preorder, new_count, has_open, is_refuted}
-use Rattle.league_core.specs.inside.Lending.{all_opened}
-use Rattle.league_core.specs.search.Splits.{AreReasonsTrue}
-use Rattle.league_core.proofs.HalfLemmas.{list_all-with}
 use Rattle.cert_text.specs.Ranges.{is_test_in_range}
-use Rattle.cert_text.specs.TreeLines.{is_test_for, are_tests_for, marked_line}
+use Rattle.cert_text.specs.TreeLines.{is_test_for}
+use Rattle.wide_lines.specs.declared.wide_reason.WideReason.{WideReason}
+use Rattle.wide_lines.specs.declared.wide_reason.WideReason.TheVariants as why
+use Rattle.wide_lines.specs.declared.wide_node.WideNode.{WideNode}
+use Rattle.wide_lines.specs.declared.wide_line.WideLine.{WideLine}
+use Rattle.wide_lines.specs.declared.wide_line.WideLine.TheVariants.{Plain}
+use Rattle.wide_lines.specs.declared.wide_line.WideLine.TheVariants as wide
+use Rattle.wide_lines.specs.WideReasons.{has_wide_reason}
+use Rattle.wide_lines.specs.WideTrees.{WideTree, open_leaf, refuted_leaf, branch, WideNodesMeet}
+use Rattle.wide_lines.specs.WideTrees.{wide_preorder, wide_new_count, has_wide_open}
+use Rattle.wide_lines.specs.WideTrees.{is_wide_refuted, AreWideReasonsTrue}
+use Rattle.wide_lines.specs.WideTreeLines.{are_wide_tests_for, IsWideRefutation, IsWideSpentTree}
+use Rattle.wide_lines.proofs.RivalLemmas.{near_rival_fits, tests_with}
 use Rattle.line_tokens.specs.declared.tree_line.TreeKind.TheVariants.{Refutation, Spent}
-use Rattle.cert_check.specs.ExpectedItems.{Basis, is_path_for}
+use Rattle.cert_check.specs.ExpectedItems.{Basis, is_path_for, may_have, may_refute}
 use Rattle.line_tokens.specs.LineRanges.{is_reason_for}
 use Rattle.league_core.specs.game.Questions.{full_question, holds_at}
-use Rattle.league_core.proofs.LendingLemmas.{new_count-all_opened}
 use Rattle.cert_text.specs.declared.proof_line.ProofLine.{ProofLine}
-use Rattle.cert_text.specs.TreeLines.{IsRefutationTree, IsSpentTree}
 use Rattle.cert_text.specs.ExampleLines.{score_lines, lots_line}
 use Rattle.line_tokens.specs.declared.token.Token.{Token}
 use Rattle.line_tokens.specs.declared.token.Token.TheVariants.{Row, Proof}
 use Rattle.cert_check.specs.declared.expected.RowWord.{RowWord}
 use Rattle.cert_check.specs.declared.expected.RowWord.TheVariants.{Clinched, Lost, Possible}
 use Rattle.cert_check.specs.declared.expected.RowWord.TheVariants.{Unsettled}
-use Rattle.line_tokens.specs.Tokens.{counts, counted_lines}
+use Rattle.line_tokens.specs.Tokens.{counts, counted_lines, token_of_wide}
 use Rattle.cert_check.specs.ExpectedItems.{verdict_fields, ask_fields}
 use Rattle.line_tokens.specs.LineRanges.{name_of_club}
 use Rattle.cert_check.specs.ExpectedItems.{Expected}
 use Rattle.cert_check.specs.LineGrammars.{whole_at}
 use Rattle.cert_check.specs.Machine.{with_unsettled, is_unsettled_row, ending_of, rows_of}
 use Rattle.cert_check.specs.Machine.{part_of_ask}
-use Rattle.cert_check.specs.inside.Grammar.{NodeFits, line_of_node, IsRefutationPart, IsSpentPart}
+use Rattle.cert_check.specs.inside.Grammar.{NodeFits, line_of_node, lines_of_tree}
+use Rattle.cert_check.specs.inside.Grammar.{IsRefutationPart, IsSpentPart}
 use Rattle.cert_check.specs.inside.Grammar.{IsExamplePart, IsAfterReport, AreParts}
 use Rattle.cert_check.specs.inside.Calls.{unsettled_in}
 use Rattle.cert_check.specs.inside.Answers.{ShowsRefutedHeaded, ShowsSpentHeaded, ShowsExampleOf}
 use Rattle.cert_check.specs.inside.Answers.{ShowsWord, ShownItem, item_tokens, answer_tokens}
-use Rattle.cert_check.specs.inside.Answers.{AreShown, unsettled_items, row_due}
+use Rattle.cert_check.specs.inside.Answers.{AreShown, unsettled_items, row_due, may_have_leaves}
 use Rattle.cert_check.proofs.ExampleLemmas.{same_finish}
+use Rattle.cert_check.proofs.NodeLemmas.{node_counts}
+use Rattle.cert_check.proofs.FitLemmas.{reason_fits}
 use Rattle.cert_check.specs.inside.LineParts.{unsettled_with}
 use Rattle.cert_check.proofs.ReportLemmas.{proved_is_accepted}
 
--- what all literals of a zone pass, one that is found passes
-found_passes : (test found : Literal → Bool) (clubs : Bool) (zone : List Literal)
-    → list_all test zone ≡ true → list_any found zone ≡ true
-    → ((literal : Literal) → test literal ≡ true → found literal ≡ true → clubs ≡ true)
-    → clubs ≡ true
-found_passes test found clubs [] all any gives = absurd (false≢true any)
-found_passes test found clubs (literal ∷ zone) all any gives =
-    let parts = and_parts (test literal) (list_all test zone) all in
-    elim (or_cases (found literal) (list_any found zone) any) [
-      | inl here ↦ gives literal parts.0 here
-      | inr later ↦ found_passes test found clubs zone parts.1 later gives
-    ]
-
--- a club that a test of the question asks after is a rival of the sheet
-rival_of_test : (sheet : Sheet) (question : Question) (club : ℕ) (test : Test)
-    → is_test_for sheet question test ≡ true → is_of_rival club test ≡ true
-    → (nat_lt club (length sheet.clubs) && not (club == question.club)) ≡ true
-rival_of_test sheet question club (Home fixture) fits is = absurd (false≢true is)
-rival_of_test sheet question club (Draw fixture) fits is = absurd (false≢true is)
-rival_of_test sheet question club (HomeMost fixture most) fits is = absurd (false≢true is)
-rival_of_test sheet question club (AwayMost fixture most) fits is = absurd (false≢true is)
-rival_of_test sheet question club (Rival other) fits is =
-    let parts = and_parts (is_test_in_range (Rival other) && nat_lt other (length sheet.clubs))
-    (not (other == question.club)) fits in
-    let of = (and_parts (is_test_in_range (Rival other)) (nat_lt other (length sheet.clubs))
-    parts.0).1 in
-    let P : ℕ → Type 0 = λ it. (nat_lt it (length sheet.clubs) && not (it == question.club)) ≡ true
-    in subst P (eqb-true other club is)
-    (and_from (nat_lt other (length sheet.clubs)) (not (other == question.club)) of parts.1)
-
--- marked clubs are rivals of the sheet
-marked_are_rivals : (sheet : Sheet) (question : Question) (zone : List Literal)
-    (says : Literal → Bool) (clubs : List ℕ) → is_path_for sheet question zone ≡ true
-    → list_all (λ club. list_any (λ it. is_of_rival club it.test && says it) zone) clubs ≡ true
-    → list_all (λ club. nat_lt club (length sheet.clubs) && not (club == question.club)) clubs
-    ≡ true
-marked_are_rivals sheet question zone says [] path marked = refl
-marked_are_rivals sheet question zone says (club ∷ clubs) path marked =
-    let parts = and_parts (list_any (λ it. is_of_rival club it.test && says it) zone)
-    (list_all (λ other. list_any (λ it. is_of_rival other it.test && says it) zone) clubs) marked in
-    and_from (nat_lt club (length sheet.clubs) && not (club == question.club))
-    (list_all (λ other. nat_lt other (length sheet.clubs) && not (other == question.club)) clubs)
-    (found_passes (λ it. is_test_for sheet question it.test)
-    (λ it. is_of_rival club it.test && says it)
-    (nat_lt club (length sheet.clubs) && not (club == question.club)) zone path parts.0
-    (λ literal fits here. rival_of_test sheet question club literal.test fits
-    (and_parts (is_of_rival club literal.test) (says literal) here).0))
-    (marked_are_rivals sheet question zone says clubs path parts.1)
-
--- a reason that holds is one that a leaf may have
-reason_fits : (sheet : Sheet) (season : Results) (question : Question) (zone : List Literal)
-    (reason : Reason) → is_path_for sheet question zone ≡ true
-    → has_reason sheet season question zone reason ≡ true
-    → is_reason_for sheet question reason ≡ true
-unfolding has_reason
-reason_fits sheet season question zone Count path holds = refl
-reason_fits sheet season question zone Window path holds = refl
-reason_fits sheet season question zone Tie path holds = refl
-reason_fits sheet season question zone (Low set) path holds =
-    let clubs = clubs_in set in
-    let says = (and_parts (has_finish sheet season zone)
-    (refutes sheet season question zone (Low set)) holds).1 in
-    let front = (and_parts (has_member clubs && list_all (marked_after zone) clubs) _ says).0 in
-    let parts = and_parts (has_member clubs) (list_all (marked_after zone) clubs) front in
-    and_from (has_member clubs)
-    (list_all (λ club. nat_lt club (length sheet.clubs) && not (club == question.club)) clubs)
-    parts.0 (marked_are_rivals sheet question zone (λ it. not it.yes) clubs path parts.1)
-reason_fits sheet season question zone (High set) path holds =
-    let clubs = clubs_in set in
-    let says = (and_parts (has_finish sheet season zone)
-    (refutes sheet season question zone (High set)) holds).1 in
-    let front = (and_parts (has_member clubs && list_all (marked_before zone) clubs) _ says).0 in
-    let parts = and_parts (has_member clubs) (list_all (marked_before zone) clubs) front in
-    and_from (has_member clubs)
-    (list_all (λ club. nat_lt club (length sheet.clubs) && not (club == question.club)) clubs)
-    parts.0 (marked_are_rivals sheet question zone (λ it. it.yes) clubs path parts.1)
-
--- a half of a way by a test of the question is a way by such tests
-half_path : (sheet : Sheet) (question : Question) (zone : List Literal) (test : Test)
-    (holds : Bool) → is_path_for sheet question zone ≡ true
-    → is_test_for sheet question test ≡ true
-    → is_path_for sheet question (with_test zone test holds) ≡ true
-half_path sheet question zone test holds path fits =
-    list_all-with (λ it. is_test_for sheet question it.test) zone test holds
-    ∙ and_from (is_path_for sheet question zone) (is_test_for sheet question test) path fits
+-- a wide one may stand in a report that may have such leaves
+wide_fits : (basis : Basis) (question : Question) (zone : List Literal) (reason : WideReason)
+    → is_path_for basis.sheet question zone ≡ true
+    → has_wide_reason basis.sheet basis.season question zone reason ≡ true
+    → may_have basis.kind reason ≡ true
+    → may_refute basis.kind basis.sheet question reason ≡ true
+wide_fits basis question zone (why.Plain reason) path holds may =
+    and_from (may_have basis.kind (why.Plain reason)) (is_reason_for basis.sheet question reason)
+    may (reason_fits basis.sheet basis.season question zone reason path holds)
+wide_fits basis question zone (why.Near rival) path holds may =
+    and_from (may_have basis.kind (why.Near rival)) (is_test_for basis.sheet question (Rival rival))
+    may (near_rival_fits basis.sheet basis.season question zone rival path holds)
 
 -- a refutation's nodes may stand in a report and prove what they say
-pub refutation_fits : (basis : Basis) (question : Question) (tree : Tree) (zone : List Literal)
+refutation_fits : (basis : Basis) (question : Question) (tree : WideTree) (zone : List Literal)
     → is_path_for basis.sheet question zone ≡ true
-    → are_tests_for basis.sheet question tree ≡ true → is_refuted tree ≡ true
-    → AreReasonsTrue basis.sheet basis.season question zone tree
-    → NodesMeet (NodeFits true basis Refutation question) zone tree
-refutation_fits basis question open_leaf zone path tests refuted reasons =
+    → are_wide_tests_for basis.sheet question tree ≡ true → is_wide_refuted tree ≡ true
+    → AreWideReasonsTrue basis.sheet basis.season question zone tree
+    → may_have_leaves basis.kind tree ≡ true
+    → WideNodesMeet (NodeFits true basis Refutation question) zone tree
+refutation_fits basis question open_leaf zone path tests refuted reasons may =
     absurd (false≢true refuted)
-refutation_fits basis question (lent_leaf number) zone path tests refuted reasons =
-    absurd (false≢true refuted)
-refutation_fits basis question (refuted_leaf reason fresh) zone path tests refuted reasons =
-    (reason_fits basis.sheet basis.season question zone reason path reasons, reasons)
+refutation_fits basis question (refuted_leaf reason fresh) zone path tests refuted reasons may =
+    (wide_fits basis question zone reason path reasons may, reasons)
 refutation_fits basis question (branch test fresh yes_half no_half) zone path tests refuted
-    reasons =
-    let both = and_parts (is_refuted yes_half) (is_refuted no_half) refuted in
+    reasons may =
+    let both = and_parts (is_wide_refuted yes_half) (is_wide_refuted no_half) refuted in
+    let halves = and_parts (may_have_leaves basis.kind yes_half)
+    (may_have_leaves basis.kind no_half) may in
     let all = and_parts (is_test_for basis.sheet question test
-    && are_tests_for basis.sheet question yes_half) (are_tests_for basis.sheet question no_half)
+    && are_wide_tests_for basis.sheet question yes_half) (are_wide_tests_for basis.sheet question
+    no_half)
     tests in
     let front = and_parts (is_test_for basis.sheet question test)
-    (are_tests_for basis.sheet question yes_half) all.0 in (
+    (are_wide_tests_for basis.sheet question yes_half) all.0 in (
       front.0,
       refutation_fits basis question yes_half (with_test zone test true)
-          (half_path basis.sheet question zone test true path front.0) front.1 both.0 reasons.1,
+          (tests_with basis.sheet question zone test true path front.0) front.1 both.0 reasons.1
+          halves.0,
       refutation_fits basis question no_half (with_test zone test false)
-          (half_path basis.sheet question zone test false path front.0) all.1 both.1 reasons.2,
+          (tests_with basis.sheet question zone test false path front.0) all.1 both.1 reasons.2
+          halves.1,
     )
 
--- so may those of a tree on which the budget was spent, a lent leaf being written as an open one
-pub spent_fits : (basis : Basis) (question : Question) (tree : Tree) (zone : List Literal)
+-- so may those of a tree on which the budget was spent
+spent_fits : (basis : Basis) (question : Question) (tree : WideTree) (zone : List Literal)
     → is_path_for basis.sheet question zone ≡ true
-    → are_tests_for basis.sheet question tree ≡ true
-    → AreReasonsTrue basis.sheet basis.season question zone tree
-    → NodesMeet (NodeFits true basis Spent question) zone (all_opened tree)
-spent_fits basis question open_leaf zone path tests reasons = tt
-spent_fits basis question (lent_leaf number) zone path tests reasons = tt
-spent_fits basis question (refuted_leaf reason fresh) zone path tests reasons =
-    (reason_fits basis.sheet basis.season question zone reason path reasons, reasons)
-spent_fits basis question (branch test fresh yes_half no_half) zone path tests reasons =
+    → are_wide_tests_for basis.sheet question tree ≡ true
+    → AreWideReasonsTrue basis.sheet basis.season question zone tree
+    → may_have_leaves basis.kind tree ≡ true
+    → WideNodesMeet (NodeFits true basis Spent question) zone tree
+spent_fits basis question open_leaf zone path tests reasons may = tt
+spent_fits basis question (refuted_leaf reason fresh) zone path tests reasons may =
+    (wide_fits basis question zone reason path reasons may, reasons)
+spent_fits basis question (branch test fresh yes_half no_half) zone path tests reasons may =
+    let halves = and_parts (may_have_leaves basis.kind yes_half)
+    (may_have_leaves basis.kind no_half) may in
     let all = and_parts (is_test_for basis.sheet question test
-    && are_tests_for basis.sheet question yes_half) (are_tests_for basis.sheet question no_half)
+    && are_wide_tests_for basis.sheet question yes_half) (are_wide_tests_for basis.sheet question
+    no_half)
     tests in
     let front = and_parts (is_test_for basis.sheet question test)
-    (are_tests_for basis.sheet question yes_half) all.0 in (
+    (are_wide_tests_for basis.sheet question yes_half) all.0 in (
       front.0,
       spent_fits basis question yes_half (with_test zone test true)
-          (half_path basis.sheet question zone test true path front.0) front.1 reasons.1,
+          (tests_with basis.sheet question zone test true path front.0) front.1 reasons.1 halves.0,
       spent_fits basis question no_half (with_test zone test false)
-          (half_path basis.sheet question zone test false path front.0) all.1 reasons.2,
+          (tests_with basis.sheet question zone test false path front.0) all.1 reasons.2 halves.1,
     )
 
--- opened, a tree has the same lines
-pub marked_lines-opened : (tree : Tree)
-    → map marked_line (preorder (all_opened tree)) ≡ map marked_line (preorder tree)
-marked_lines-opened open_leaf = refl
-marked_lines-opened (lent_leaf number) = refl
-marked_lines-opened (refuted_leaf reason fresh) = refl
-marked_lines-opened (branch test fresh yes_half no_half) =
-    ap (λ it. marked_line (node.Split test fresh) ∷ it)
-    (map-append marked_line (preorder (all_opened yes_half)) (preorder (all_opened no_half))
-    ∙ ap (λ it. it ++ map marked_line (preorder (all_opened no_half))) (marked_lines-opened
-    yes_half)
-    ∙ ap (λ it. map marked_line (preorder yes_half) ++ it) (marked_lines-opened no_half)
-    ∙ sym (map-append marked_line (preorder yes_half) (preorder no_half)))
-
--- and an open leaf where it had one
-pub has_open-opened : (tree : Tree) → has_open tree ≡ true → has_open (all_opened tree) ≡ true
-has_open-opened open_leaf open_one = refl
-has_open-opened (lent_leaf number) open_one = refl
-has_open-opened (refuted_leaf reason fresh) open_one = open_one
-has_open-opened (branch test fresh yes_half no_half) open_one =
-    elim (or_cases (has_open yes_half) (has_open no_half) open_one) as (λ _.
-    (has_open (all_opened yes_half) || has_open (all_opened no_half)) ≡ true) [
-      | inl here ↦ or_left (has_open (all_opened yes_half)) (has_open (all_opened no_half))
-          (has_open-opened yes_half here)
-      | inr there ↦ or_right (has_open (all_opened yes_half)) (has_open (all_opened no_half))
-          (has_open-opened no_half there)
-    ]
-
 -- the lines of a list of nodes, made in one step or in two
-lines_of_nodes : (shown : TreeNode → ProofLine) (nodes : List TreeNode)
-    → map Proof (map shown nodes) ≡ map (λ it. Proof (shown it)) nodes
+lines_of_nodes : (shown : WideNode → WideLine) (nodes : List WideNode)
+    → map token_of_wide (map shown nodes) ≡ map (λ it. token_of_wide (shown it)) nodes
 lines_of_nodes shown [] = refl
-lines_of_nodes shown (it ∷ nodes) = ap (λ lines. Proof (shown it) ∷ lines) (lines_of_nodes shown
-    nodes)
+lines_of_nodes shown (it ∷ nodes) =
+    ap (λ lines. token_of_wide (shown it) ∷ lines) (lines_of_nodes shown nodes)
 
 -- a shown refutation is a proved one
-refuted_part : (basis : Basis) (question : Question) (lines : List ProofLine)
+refuted_part : (basis : Basis) (question : Question) (lines : List WideLine)
     → ShowsRefutedHeaded basis question lines
-    → IsRefutationPart true basis question (map Proof lines)
+    → IsRefutationPart true basis question (map token_of_wide lines)
 refuted_part basis question lines shown =
-    let tree = shown.1.0 in
-    let is : IsRefutationTree basis.sheet basis.season question tree = shown.1.1 in (
-      map Proof shown.0,
+    let tree = shown.0 in
+    let is : IsWideRefutation basis.sheet basis.season question tree = shown.1 in (
+      map token_of_wide (map (line_of_node Refutation) (wide_preorder tree)),
       (
         tree ∷ [],
-        (refutation_fits basis question tree [] refl is.tests is.refuted is.reasons, tt),
+        (refutation_fits basis question tree [] refl is.tests is.refuted is.reasons shown.2, tt),
         refl,
-        ap (map Proof) shown.1.2
-            ∙ lines_of_nodes (line_of_node Refutation) (preorder tree)
-            ∙ sym (append-nil (map (λ it. Proof (line_of_node Refutation it)) (preorder tree))),
+        lines_of_nodes (line_of_node Refutation) (wide_preorder tree)
+            ∙ sym (append-nil (lines_of_tree Refutation tree)),
       ),
-      ap (map Proof) shown.2,
+      ap (map token_of_wide) shown.3,
     )
 
 -- a shown spent tree is a proved one
-spent_part : (basis : Basis) (question : Question) (lines : List ProofLine)
-    → ShowsSpentHeaded basis question lines → IsSpentPart true basis question (map Proof lines)
+spent_part : (basis : Basis) (question : Question) (lines : List WideLine)
+    → ShowsSpentHeaded basis question lines
+    → IsSpentPart true basis question (map token_of_wide lines)
 spent_part basis question lines shown =
-    let tree = shown.1.0 in
-    let is : IsSpentTree basis.sheet basis.season question basis.sheet.budget tree = shown.1.1 in
-    let both = and_parts (new_count tree == basis.sheet.budget) (has_open tree) is.spent in (
-      map Proof shown.0,
+    let tree = shown.0 in
+    let is : IsWideSpentTree basis.sheet basis.season question basis.sheet.budget tree = shown.1 in
+    let both = and_parts (wide_new_count tree == basis.sheet.budget) (has_wide_open tree) is.spent
+    in (
+      map token_of_wide (map (line_of_node Spent) (wide_preorder tree)),
       (
-        all_opened tree ∷ [],
-        (spent_fits basis question tree [] refl is.tests is.reasons, tt),
-        and_from (0 + new_count (all_opened tree) == basis.sheet.budget)
-            (false || has_open (all_opened tree))
-            (ap (λ it. it == basis.sheet.budget)
-            (zero-add (new_count (all_opened tree)) ∙ new_count-all_opened tree) ∙ both.0)
-            (has_open-opened tree both.1),
-        ap (map Proof) (shown.1.2 ∙ sym (marked_lines-opened tree))
-            ∙ lines_of_nodes (line_of_node Spent) (preorder (all_opened tree))
-            ∙ sym (append-nil (map (λ it. Proof (line_of_node Spent it)) (preorder (all_opened
-            tree)))),
+        tree ∷ [],
+        (spent_fits basis question tree [] refl is.tests is.reasons shown.2, tt),
+        and_from (0 + wide_new_count tree == basis.sheet.budget) (false || has_wide_open tree)
+            (ap (λ it. it == basis.sheet.budget) (zero-add (wide_new_count tree)) ∙ both.0) both.1,
+        lines_of_nodes (line_of_node Spent) (wide_preorder tree)
+            ∙ sym (append-nil (lines_of_tree Spent tree)),
       ),
-      ap (map Proof) shown.2,
+      ap (map token_of_wide) shown.3,
     )
 
+-- lines without near leaves are the same as wide lines
+pub plain_tokens : (lines : List ProofLine)
+    → map token_of_wide (map (λ shown. Plain shown) lines) ≡ map (λ shown. Proof shown) lines
+plain_tokens [] = refl
+plain_tokens (shown ∷ lines) = ap (λ it. Proof shown ∷ it) (plain_tokens lines)
+
 -- a shown example is a proved one
-example_part : (basis : Basis) (question : Question) (lines : List ProofLine)
-    → ShowsExampleOf basis question lines → IsExamplePart true basis question (map Proof lines)
+example_part : (basis : Basis) (question : Question) (lines : List WideLine)
+    → ShowsExampleOf basis question lines
+    → IsExamplePart true basis question (map token_of_wide lines)
 example_part basis question lines shown =
-    let finish = shown.0 in
-    let drawn = shown.1 in
-    let is = shown.2 in
+    let finish = shown.1.0 in
+    let drawn = shown.1.1 in
+    let is = shown.1.2 in
     let H : Results → Type 0 = λ it. holds_at basis.sheet question it drawn ≡ true in (
       map Proof (score_lines 0 basis.season.scores finish.scores ++ lots_line drawn ∷ []),
       (
@@ -291,27 +206,27 @@ example_part basis question lines shown =
         subst H (sym (same_finish basis.season finish is.is_finish.deductions)) is.holds,
         refl,
       ),
-      ap (map Proof) shown.3,
+      ap (map token_of_wide) shown.2 ∙ plain_tokens shown.0 ∙ ap (map Proof) shown.1.3,
     )
 
 -- what is shown after a word is proved
-word_part : (basis : Basis) (number club : ℕ) (word : RowWord) (lines : List ProofLine)
-    → ShowsWord basis number club word lines → IsAfterReport true basis number club word (map Proof
-    lines)
+word_part : (basis : Basis) (number club : ℕ) (word : RowWord) (lines : List WideLine)
+    → ShowsWord basis number club word lines
+    → IsAfterReport true basis number club word (map token_of_wide lines)
 word_part basis number club Clinched lines shown =
     refuted_part basis (full_question club number Outside) lines shown
 word_part basis number club Lost lines shown =
     refuted_part basis (full_question club number Inside) lines shown
 word_part basis number club Possible lines shown = (
-  map Proof shown.0,
-  map Proof shown.1,
+  map token_of_wide shown.0,
+  map token_of_wide shown.1,
   example_part basis (full_question club number Inside) shown.0 shown.2,
   example_part basis (full_question club number Outside) shown.1 shown.3,
-  ap (map Proof) shown.4 ∙ map-append Proof shown.0 shown.1,
+  ap (map token_of_wide) shown.4 ∙ map-append token_of_wide shown.0 shown.1,
 )
 word_part basis number club Unsettled lines shown = (
-  map Proof shown.0,
-  map Proof shown.1,
+  map token_of_wide shown.0,
+  map token_of_wide shown.1,
   elim shown.2 [
     | inl two ↦ inl (
       example_part basis (full_question club number Inside) shown.0 two.0,
@@ -325,7 +240,7 @@ word_part basis number club Unsettled lines shown = (
       ],
     )
   ],
-  ap (map Proof) shown.3 ∙ map-append Proof shown.0 shown.1,
+  ap (map token_of_wide) shown.3 ∙ map-append token_of_wide shown.0 shown.1,
 )
 
 -- shown items are proved parts
@@ -337,7 +252,7 @@ items_parts basis (item ∷ items) shown = (
   flat_map (item_tokens basis) items,
   (
     item.word,
-    map Proof item.lines,
+    map token_of_wide item.lines,
     word_part basis item.line item.club item.word item.lines shown.0,
     refl,
   ),
@@ -346,10 +261,12 @@ items_parts basis (item ∷ items) shown = (
 )
 
 -- proof lines have no unsettled row
-unsettled-proofs : (lines : List ProofLine) (unsettled : ℕ)
-    → unsettled_with is_unsettled_row unsettled (map Proof lines) ≡ unsettled
+unsettled-proofs : (lines : List WideLine) (unsettled : ℕ)
+    → unsettled_with is_unsettled_row unsettled (map token_of_wide lines) ≡ unsettled
 unsettled-proofs [] unsettled = refl
-unsettled-proofs (shown ∷ lines) unsettled = unsettled-proofs lines unsettled
+unsettled-proofs (wide.Plain shown ∷ lines) unsettled = unsettled-proofs lines unsettled
+unsettled-proofs (wide.Near rival ∷ lines) unsettled = unsettled-proofs lines unsettled
+unsettled-proofs (wide.NewNear rival ∷ lines) unsettled = unsettled-proofs lines unsettled
 
 -- of lines one after another, first the ones and then the others
 unsettled_with-append : (front back : List Token) (unsettled : ℕ)
@@ -383,9 +300,11 @@ unsettled-items basis (item ∷ items) unsettled =
     ∙ unsettled-items basis items (unsettled + unsettled_in item.word) ∙ omega arith
 
 -- proof lines count
-all_count-proofs : (lines : List ProofLine) → list_all counts (map Proof lines) ≡ true
+all_count-proofs : (lines : List WideLine) → list_all counts (map token_of_wide lines) ≡ true
 all_count-proofs [] = refl
-all_count-proofs (shown ∷ lines) = all_count-proofs lines
+all_count-proofs (shown ∷ lines) =
+    and_from (counts (token_of_wide shown)) (list_all counts (map token_of_wide lines))
+    (node_counts shown) (all_count-proofs lines)
 
 -- the lines of items count
 all_count-items : (basis : Basis) (items : List ShownItem)

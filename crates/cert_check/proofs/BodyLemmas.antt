@@ -1,6 +1,7 @@
 -- The lines of an answer, as they are written: the bytes of each before its line feed are read as
 -- the line.
-use Rattle.std.proofs.Common.{◌≡◌, inl, inr, ℕ, ◌<◌, ◌^◌, true, false, ◌&&◌, cond, List, [], ◌∷◌}
+use Rattle.std.proofs.Common.{◌≡◌, inl, inr, ℕ, Bool, ◌<◌, ◌^◌, true, false, ◌&&◌, cond, List, []}
+use Rattle.std.proofs.Common.{◌∷◌}
 use Rattle.std.proofs.Common.{◌++◌, length}
 use Rattle.std.proofs.Common.{refl, sym, ap, subst, arith}
 use Rattle.std.specs.Prelude.{codes, decimal}
@@ -13,10 +14,13 @@ use Rattle.csv.specs.Writing.{default_writer, fields_text, row_body, is_blank as
 use Rattle.fixture_sheet.specs.Fields.{is_blank, with_field, without_padding}
 use Rattle.cert_text.specs.declared.proof_line.ProofLine.{ProofLine}
 use Rattle.cert_text.specs.Lines.{text_of_proof_line}
+use Rattle.cert_text.specs.Ranges.{is_club_number}
 use Rattle.cert_text.proofs.PrintedLemmas.{line_printed}
 use Rattle.line_tokens.specs.declared.token.Token.{Token}
-use Rattle.line_tokens.specs.declared.token.Token.TheVariants.{Blank, Row, Proof, Unknown}
-use Rattle.line_tokens.specs.Tokens.{token_of}
+use Rattle.line_tokens.specs.declared.token.Token.TheVariants.{Blank, Row, Proof, Near, Unknown}
+use Rattle.line_tokens.specs.Tokens.{token_of, token_of_line}
+use Rattle.wide_lines.specs.WideTexts.{text_of_near}
+use Rattle.wide_lines.proofs.NearTextLemmas.{near_printed, near_reads_back}
 use Rattle.cert_check.specs.declared.expected.RowWord.{RowWord}
 use Rattle.cert_check.specs.declared.expected.RowWord.TheVariants.{Clinched, Lost, Possible}
 use Rattle.cert_check.specs.declared.expected.RowWord.TheVariants.{Unsettled}
@@ -51,6 +55,22 @@ proof_body line writable = record {
   within = printed_bytes (text_of_proof_line line) (line_printed line writable.0);
   kept = refl;
   token = token_of-text line writable;
+}
+
+-- the line of a near leaf is read as that leaf
+near_token : (rival : ℕ) (fresh : Bool) → is_club_number rival ≡ true
+    → token_of (text_of_near fresh rival) ≡ Near rival fresh
+near_token rival true known = ap token_of_line (near_reads_back true rival known)
+near_token rival false known = ap token_of_line (near_reads_back false rival known)
+
+-- a near leaf
+near_body : (rival : ℕ) (fresh : Bool) → is_club_number rival ≡ true → HasBody (Near rival fresh)
+near_body rival fresh known = record {
+  body = text_of_near fresh rival;
+  bytes = refl;
+  within = printed_bytes (text_of_near fresh rival) (near_printed fresh rival known);
+  kept = refl;
+  token = near_token rival fresh known;
 }
 
 some_digit : (n : ℕ) → n < 2 ^ 64 → is_blank (decimal n) ≡ false
@@ -120,6 +140,7 @@ body_of (Row fields) (inr verdict) =
     subst (λ (row : List (List ℕ)). HasBody (Row row)) (sym verdict.5)
     (verdict_body verdict.0 verdict.1 verdict.2 verdict.3 verdict.4)
 body_of (Proof line) is = proof_body line is
+body_of (Near rival fresh) is = near_body rival fresh is
 body_of Unknown is = absurd is
 
 pub bodies_of : (told : List Token) → AreRead told → HaveBodies told

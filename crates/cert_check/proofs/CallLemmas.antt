@@ -6,14 +6,14 @@ use Rattle.std.proofs.lemmas.Bool.{false≢true, and_parts, and_from}
 use Rattle.league_core.specs.declared.sheet.Sheet.{Sheet}
 use Rattle.league_core.specs.declared.question.Question.{Question}
 use Rattle.league_core.specs.declared.zone.Literal.{Literal}
-use Rattle.league_core.specs.declared.zone.Reason.{Reason}
-use Rattle.league_core.specs.declared.tree.TreeNode.TheVariants as node
 use Rattle.league_core.specs.search.Zones.{is_zone_of, is_test_of, is_of_rival}
-use Rattle.league_core.specs.search.Reasons.{has_reason}
 use Rattle.cert_text.specs.Ranges.{is_test_in_range}
 use Rattle.cert_text.specs.TreeLines.{is_test_for}
+use Rattle.wide_lines.specs.declared.wide_reason.WideReason.{WideReason}
+use Rattle.wide_lines.specs.declared.wide_node.WideNode.TheVariants as node
+use Rattle.wide_lines.specs.WideReasons.{has_wide_reason}
 use Rattle.line_tokens.specs.declared.token.Token.{Token}
-use Rattle.line_tokens.specs.declared.token.Token.TheVariants.{Blank, Row, Proof, Unknown}
+use Rattle.line_tokens.specs.declared.token.Token.TheVariants.{Blank, Row, Proof, Near, Unknown}
 use Rattle.cert_check.specs.declared.stop.CheckStopAt.TheVariants as halt
 use Rattle.line_tokens.specs.declared.tree_line.TreeKind.{TreeKind}
 use Rattle.cert_check.specs.declared.expected.Tally.{Tally}
@@ -21,8 +21,7 @@ use Rattle.cert_check.specs.ExpectedItems.{Basis, Expected, ask_row, verdict_row
 use Rattle.cert_check.specs.LineGrammars.{go, by_next}
 use Rattle.cert_check.specs.ExpectedItems.{nodes}
 use Rattle.cert_check.specs.ExpectedItems.{after, is_ask_row, is_path_for}
-use Rattle.line_tokens.specs.LineRanges.{is_reason_for}
-use Rattle.cert_check.specs.ExpectedItems.{after_leaf}
+use Rattle.cert_check.specs.ExpectedItems.{after_leaf, may_refute}
 use Rattle.cert_check.specs.ExpectedItems.{after_node, with_fresh}
 use Rattle.cert_check.specs.Machine.{with_unsettled}
 use Rattle.cert_check.specs.Machine.{ending_of, report_grammar}
@@ -51,6 +50,7 @@ pub line_passes : (judged : ReportView) (at : ℕ) (token : Token)
 line_passes judged at Blank there passed = line_reads judged at Blank there
 line_passes judged at (Row fields) there passed = absurd (false≢true (sym passed))
 line_passes judged at (Proof shown) there passed = absurd (false≢true (sym passed))
+line_passes judged at (Near rival fresh) there passed = absurd (false≢true (sym passed))
 line_passes judged at Unknown there passed = absurd (false≢true (sym passed))
 
 -- a line that does not prove what it says
@@ -76,6 +76,7 @@ quiet : (basis : Basis) (due : Expected) (token : Token) (holds : Bool) (more : 
     → with_unsettled unsettled token ≡ unsettled
 quiet basis due Blank holds more is goes unsettled = refl
 quiet basis due (Proof shown) holds more is goes unsettled = refl
+quiet basis due (Near rival fresh) holds more is goes unsettled = refl
 quiet basis due Unknown holds more is goes unsettled = refl
 quiet basis ask_row (Row fields) holds more is goes unsettled =
     let fits = go-if (is_ask_row basis.epoch fields) (go true []) holds more goes in
@@ -135,16 +136,16 @@ leaf_unproved basis kind question (zone ∷ zones) tally =
 
 -- a leaf whose reason does not hold
 pub reason_unproved : (basis : Basis) (kind : TreeKind) (question : Question) (zone : List Literal)
-    (zones : List (List Literal)) (tally : Tally) (reason : Reason) (fresh : Bool)
-    → is_reason_for basis.sheet question reason ≡ true
-    → has_reason basis.sheet basis.season question zone reason ≡ false
+    (zones : List (List Literal)) (tally : Tally) (reason : WideReason) (fresh : Bool)
+    → may_refute basis.kind basis.sheet question reason ≡ true
+    → has_wide_reason basis.sheet basis.season question zone reason ≡ false
     → (more : List Expected) × (after_node basis kind question zone zones tally
     (node.Refuted reason fresh) ≡ go false more)
 reason_unproved basis kind question zone zones tally reason fresh fits fails =
     let unproved = leaf_unproved basis kind question zones (with_fresh fresh tally) in (
       unproved.0,
-      if-go (is_reason_for basis.sheet question reason)
+      if-go (may_refute basis.kind basis.sheet question reason)
           (after_leaf basis kind question zones (with_fresh fresh tally)
-          (has_reason basis.sheet basis.season question zone reason)) fits
+          (has_wide_reason basis.sheet basis.season question zone reason)) fits
           ∙ ap (after_leaf basis kind question zones (with_fresh fresh tally)) fails ∙ unproved.1,
     )

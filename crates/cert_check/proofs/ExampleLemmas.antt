@@ -13,7 +13,7 @@ use Rattle.league_core.specs.game.Ranking.{are_lots}
 use Rattle.league_core.specs.game.Questions.{holds_at}
 use Rattle.cert_text.specs.declared.proof_line.ProofLine.TheVariants as line
 use Rattle.line_tokens.specs.declared.token.Token.{Token}
-use Rattle.line_tokens.specs.declared.token.Token.TheVariants.{Blank, Row, Proof, Unknown}
+use Rattle.line_tokens.specs.declared.token.Token.TheVariants.{Blank, Row, Proof, Near, Unknown}
 use Rattle.cert_check.specs.declared.stop.CheckStopAt.{CheckStopAt}
 use Rattle.cert_check.specs.declared.stop.CheckStopAt.TheVariants as halt
 use Rattle.line_tokens.specs.Tokens.{counts}
@@ -51,6 +51,7 @@ after_lots-token basis question ended (Proof (line.Lots told)) counted =
     by_test true = refl
     by_test false = refl
 after_lots-token basis question ended (Proof _) counted = refl
+after_lots-token basis question ended (Near rival fresh) counted = refl
 after_lots-token basis question ended Unknown counted = refl
 
 -- a finish with the season's deductions is the season with its scores

@@ -10,13 +10,14 @@ use Rattle.league_core.specs.declared.zone.Literal.{Literal}
 use Rattle.league_core.specs.declared.zone.Reason.TheVariants.{Count}
 use Rattle.league_core.specs.game.Ranking.{are_lots}
 use Rattle.league_core.specs.game.Questions.{holds_at, full_question}
-use Rattle.league_core.specs.search.Reasons.{has_reason}
-use Rattle.league_core.specs.search.Trees.{Tree, refuted_leaf}
 use Rattle.league_core.specs.inside.LotsFor.{lots_for_claim}
 use Rattle.league_core.proofs.LotsLemmas.{lots_for_claim-are_lots}
 use Rattle.league_core.proofs.FinishLemmas.{may_all_end-ended, ended_of}
 use Rattle.cert_text.specs.declared.proof_line.ProofLine.TheVariants as line
 use Rattle.cert_text.specs.ExampleLines.{score_lines, lots_line}
+use Rattle.wide_lines.specs.declared.wide_reason.WideReason.TheVariants as why
+use Rattle.wide_lines.specs.WideReasons.{has_wide_reason}
+use Rattle.wide_lines.specs.WideTrees.{WideTree, refuted_leaf}
 use Rattle.line_tokens.specs.declared.token.Token.{Token}
 use Rattle.line_tokens.specs.declared.token.Token.TheVariants.{Row, Proof}
 use Rattle.cert_check.specs.declared.expected.RowWord.TheVariants.{Clinched}
@@ -34,11 +35,11 @@ use Rattle.cert_check.specs.inside.Grammar.{IsExamplePart, tally_after}
 use Rattle.league_core.proofs.plain.Options.{OnTrue-false}
 
 -- a refuted leaf
-some_leaf : Tree
-some_leaf = refuted_leaf Count false
+some_leaf : WideTree
+some_leaf = refuted_leaf (why.Plain Count) false
 
 -- a leaf for each zone
-leaves_for : List (List Literal) → List Tree
+leaves_for : List (List Literal) → List WideTree
 leaves_for zones = map (λ _. some_leaf) zones
 
 -- they fit
@@ -47,7 +48,11 @@ leaves_fit : (basis : Basis) (kind : TreeKind) (question : Question) (zones : Li
 unfolding leaves_for some_leaf
 leaves_fit basis kind question [] = tt
 leaves_fit basis kind question (zone ∷ zones) = (
-  (refl, OnTrue-false (IsTrue (has_reason basis.sheet basis.season question zone Count))),
+  (
+    refl,
+    OnTrue-false
+        (IsTrue (has_wide_reason basis.sheet basis.season question zone (why.Plain Count))),
+  ),
   leaves_fit basis kind question zones,
 )
 

@@ -27,6 +27,7 @@ use Rattle.cert_check.specs.declared.outcome.CheckOutcome.{CheckOutcome}
 use Rattle.cert_check.specs.declared.outcome.CheckOutcome.TheVariants.{Refused, BadSheet, BadFeed}
 use Rattle.cert_check.specs.declared.outcome.CheckFailure.{CheckFailure}
 use Rattle.cert_check.specs.declared.outcome.CheckFailure.TheVariants as failure
+use Rattle.cert_check.specs.declared.expected.ReportKind.{ReportKind}
 use Rattle.cert_check.specs.Outcomes.{outcome_of, outcome_of_sheet, outcome_of_feed, outcome_from}
 use Rattle.cert_check.specs.Outcomes.{outcome_of_report, first_progress, numbered}
 use Rattle.cert_check.specs.inside.InputCalls.{IfRead, ChecksBy, IsStoppedBy, EndsFeed, StopsFeed}
@@ -65,105 +66,115 @@ checks-behind one two contents rest after front is same (Err failure.OutOfMemory
 -- ---- the sheet
 
 -- after a whole sheet
-pub input-sheet : (before mid after : Option Contents) (sheet : Sheet)
+pub input-sheet : (kind : ReportKind) (before mid after : Option Contents) (sheet : Sheet)
     (result : Result CheckOutcome CheckFailure) → ReadsSheet before mid (Ok sheet)
-    → IfRead mid (λ rest. ChecksBy (outcome_after_sheet sheet) rest after result)
-    → IfRead before (λ contents. ChecksBy outcome_of contents after result)
-input-sheet before mid after sheet result reads checks = λ contents is.
+    → IfRead mid (λ rest. ChecksBy (outcome_after_sheet kind sheet) rest after result)
+    → IfRead before (λ contents. ChecksBy (outcome_of kind) contents after result)
+input-sheet kind before mid after sheet result reads checks = λ contents is.
     let there = read_after (λ (c : Contents). sheet_reading_of c None)
     (λ (rest : Contents). record { gives = Ok sheet; rest = rest }) before mid contents is reads in
     let found = sheet_read contents sheet there.0 there.2 in
-    checks-behind outcome_of (outcome_after_sheet sheet) contents there.0 after found.0 found.1
-    (λ other. ap (λ (r : SheetReading). outcome_of_sheet r.rest r.gives) (found.2 other)) result
+    checks-behind (outcome_of kind) (outcome_after_sheet kind sheet) contents there.0 after found.0
+    found.1
+    (λ other. ap (λ (r : SheetReading). outcome_of_sheet kind r.rest r.gives) (found.2 other))
+    result
     (checks there.0 there.1)
 
 -- at a refused line of it
-pub input-sheet_fault : (before after : Option Contents) (number : ℕ) (fault : SheetFault)
+pub input-sheet_fault : (kind : ReportKind) (before after : Option Contents) (number : ℕ) (fault :
+    SheetFault)
     → ReadsSheet before after (Err (sheet_stop.Fault number fault))
-    → IfRead before (λ contents. ChecksBy outcome_of contents after (Ok (BadSheet number fault)))
-input-sheet_fault before after number fault reads = λ contents is.
+    → IfRead before (λ contents. ChecksBy (outcome_of kind) contents after (Ok (BadSheet number
+    fault)))
+input-sheet_fault kind before after number fault reads = λ contents is.
     let there = read_after (λ (c : Contents). sheet_reading_of c None)
     (λ (rest : Contents). record { gives = Err (sheet_stop.Fault number fault); rest = rest })
     before after contents is reads in
-    ap (λ (r : SheetReading). outcome_of_sheet r.rest r.gives) there.2
+    ap (λ (r : SheetReading). outcome_of_sheet kind r.rest r.gives) there.2
 
 -- where it stops
-pub input-sheet_stop : (before after : Option Contents) (stop : ReadStop)
+pub input-sheet_stop : (kind : ReportKind) (before after : Option Contents) (stop : ReadStop)
     (result : Result CheckOutcome CheckFailure) → IsStoppedBy stop result
     → ReadsSheet before after (Err (sheet_stop.Read stop))
-    → IfRead before (λ contents. ChecksBy outcome_of contents after result)
-input-sheet_stop before after read_stop.ReadFault result answers reads = λ contents is.
+    → IfRead before (λ contents. ChecksBy (outcome_of kind) contents after result)
+input-sheet_stop kind before after read_stop.ReadFault result answers reads = λ contents is.
     let leads = reads.1 in
-    subst (ChecksBy outcome_of contents after) (sym answers) (
+    subst (ChecksBy (outcome_of kind) contents after) (sym answers) (
       leads.0,
       sym is ∙ leads.1,
-      ap (λ (r : SheetReading). outcome_of_sheet r.rest r.gives)
+      ap (λ (r : SheetReading). outcome_of_sheet kind r.rest r.gives)
           (leads.2 (ended (Err read_stop.ReadFault))),
     )
-input-sheet_stop before after (read_stop.LineTooLong number) result answers reads = λ contents is.
+input-sheet_stop kind before after (read_stop.LineTooLong number) result answers reads = λ contents
+    is.
     let there = read_after (λ (c : Contents). sheet_reading_of c None)
     (λ (rest : Contents).
     record { gives = Err (sheet_stop.Read (read_stop.LineTooLong number)); rest = rest })
     before after contents is reads in
-    subst (ChecksBy outcome_of contents after) (sym answers)
-    (ap (λ (r : SheetReading). outcome_of_sheet r.rest r.gives) there.2)
-input-sheet_stop before after (read_stop.InputTooLong number) result answers reads = λ contents is.
+    subst (ChecksBy (outcome_of kind) contents after) (sym answers)
+    (ap (λ (r : SheetReading). outcome_of_sheet kind r.rest r.gives) there.2)
+input-sheet_stop kind before after (read_stop.InputTooLong number) result answers reads = λ contents
+    is.
     let there = read_after (λ (c : Contents). sheet_reading_of c None)
     (λ (rest : Contents).
     record { gives = Err (sheet_stop.Read (read_stop.InputTooLong number)); rest = rest })
     before after contents is reads in
-    subst (ChecksBy outcome_of contents after) (sym answers)
-    (ap (λ (r : SheetReading). outcome_of_sheet r.rest r.gives) there.2)
+    subst (ChecksBy (outcome_of kind) contents after) (sym answers)
+    (ap (λ (r : SheetReading). outcome_of_sheet kind r.rest r.gives) there.2)
 
 -- ---- the feed
 
-module _ (sheet : Sheet) (before after : Option Contents) where
+module _ (kind : ReportKind) (sheet : Sheet) (before after : Option Contents) where
   -- after the record `proofs`
   pub feed-proofs : (mid : Option Contents) (entries : List Entry)
       (result : Result CheckOutcome CheckFailure)
       → IfRead before (λ contents. EndsFeed sheet contents mid entries true)
-      → IfRead mid (λ rest. ChecksBy (outcome_after_feed sheet entries) rest after result)
-      → IfRead before (λ contents. ChecksBy (outcome_after_sheet sheet) contents after result)
+      → IfRead mid (λ rest. ChecksBy (outcome_after_feed kind sheet entries) rest after result)
+      → IfRead before (λ contents. ChecksBy (outcome_after_sheet kind sheet) contents after result)
   feed-proofs mid entries result ends checks = λ contents is.
       let leads = ends contents is in
       let there = told_after leads.0 mid contents leads.1 in
-      checks-behind (outcome_after_sheet sheet) (outcome_after_feed sheet entries) contents
-      there.0 after leads.0 there.2 (λ other. ap (outcome_of_feed sheet) (leads.2 other)) result
+      checks-behind (outcome_after_sheet kind sheet) (outcome_after_feed kind sheet entries)
+      contents
+      there.0 after leads.0 there.2 (λ other. ap (outcome_of_feed kind sheet) (leads.2 other))
+      result
       (checks there.0 there.1)
 
   -- at a refused line of it
   pub feed-fault : (entries : List Entry) (number : ℕ) (fault : FeedFault) (contents : Contents)
       → StopsFeed sheet contents after entries (feed_stop.Fault number fault)
-      → ChecksBy (outcome_after_sheet sheet) contents after (Ok (BadFeed number fault))
-  feed-fault entries number fault contents stops = ap (outcome_of_feed sheet) stops.2
+      → ChecksBy (outcome_after_sheet kind sheet) contents after (Ok (BadFeed number fault))
+  feed-fault entries number fault contents stops = ap (outcome_of_feed kind sheet) stops.2
 
   -- where it stops
   pub feed-stop : (entries : List Entry) (stop : ReadStop)
       (result : Result CheckOutcome CheckFailure) (contents : Contents) → IsStoppedBy stop result
       → StopsFeed sheet contents after entries (feed_stop.Read stop)
-      → ChecksBy (outcome_after_sheet sheet) contents after result
+      → ChecksBy (outcome_after_sheet kind sheet) contents after result
   feed-stop entries read_stop.ReadFault result contents answers stops =
-      subst (ChecksBy (outcome_after_sheet sheet) contents after) (sym answers)
-      (stops.0, stops.1, ap (outcome_of_feed sheet) (stops.2 (ended (Err read_stop.ReadFault))))
+      subst (ChecksBy (outcome_after_sheet kind sheet) contents after) (sym answers)
+      (stops.0, stops.1, ap (outcome_of_feed kind sheet) (stops.2 (ended (Err
+      read_stop.ReadFault))))
   feed-stop entries (read_stop.LineTooLong number) result contents answers stops =
-      subst (ChecksBy (outcome_after_sheet sheet) contents after) (sym answers)
-      (ap (outcome_of_feed sheet) stops.2)
+      subst (ChecksBy (outcome_after_sheet kind sheet) contents after) (sym answers)
+      (ap (outcome_of_feed kind sheet) stops.2)
   feed-stop entries (read_stop.InputTooLong number) result contents answers stops =
-      subst (ChecksBy (outcome_after_sheet sheet) contents after) (sym answers)
-      (ap (outcome_of_feed sheet) stops.2)
+      subst (ChecksBy (outcome_after_sheet kind sheet) contents after) (sym answers)
+      (ap (outcome_of_feed kind sheet) stops.2)
 
 -- ---- the report
 
 -- the report is whole
-pub report-told : (sheet : Sheet) (entries : List Entry) (told : ReportLines)
+pub report-told : (kind : ReportKind) (sheet : Sheet) (entries : List Entry) (told : ReportLines)
     (outcome : CheckOutcome) (contents : Contents) (after behind : Option Contents)
     → ReadsLines contents after (Ok told)
-    → outcome ≡ outcome_from (report_read sheet told) entries (first_progress sheet)
-    → ChecksBy (outcome_after_feed sheet entries) contents behind (Ok outcome)
-report-told sheet entries told outcome contents after behind reads is =
-    ap (outcome_after_feed sheet entries) reads.2
+    → outcome ≡ outcome_from (report_read kind sheet told) entries (first_progress sheet)
+    → ChecksBy (outcome_after_feed kind sheet entries) contents behind (Ok outcome)
+report-told kind sheet entries told outcome contents after behind reads is =
+    ap (outcome_after_feed kind sheet entries) reads.2
     ∙ ap (λ (all : List NumberedLine). Some (outcome_from
-    (record { sheet = sheet; lines = all; end = told.end }) entries (first_progress sheet)))
+    (record { kind = kind; sheet = sheet; lines = all; end = told.end }) entries (first_progress
+    sheet)))
     (sym reads.1)
     ∙ ap Some (sym is)
 
@@ -211,30 +222,30 @@ answer_from report (Proofs ∷ entries) standing new = answer_from report entrie
 answer_from report (End ∷ entries) standing new = answer_from report entries standing new
 
 -- where the reader is left then
-pub report-leaves : (sheet : Sheet) (entries : List Entry) (told : ReportLines)
+pub report-leaves : (kind : ReportKind) (sheet : Sheet) (entries : List Entry) (told : ReportLines)
     (outcome : CheckOutcome) (new : LineReaderView) (left : Option (List ℕ))
     → LeavesReader new left (Ok (line.End told.end))
-    → outcome ≡ outcome_from (report_read sheet told) entries (first_progress sheet)
+    → outcome ≡ outcome_from (report_read kind sheet told) entries (first_progress sheet)
     → LeavesCheck new left (Ok outcome)
-report-leaves sheet entries told outcome new left leaves is =
+report-leaves kind sheet entries told outcome new left leaves is =
     let answer = ap (answer_after_check new) is
-    ∙ answer_from (report_read sheet told) entries (first_progress sheet) new in
+    ∙ answer_from (report_read kind sheet told) entries (first_progress sheet) new in
     subst (LeavesReader new left) (sym answer) (refl, leaves.1, leaves.2)
 
 -- its lines stop
-pub report-stop : (sheet : Sheet) (entries : List Entry) (stop : ReadStop)
+pub report-stop : (kind : ReportKind) (sheet : Sheet) (entries : List Entry) (stop : ReadStop)
     (result : Result CheckOutcome CheckFailure) (contents : Contents) (after : Option Contents)
     → IsStoppedBy stop result → ReadsLines contents after (Err (lines_stop.Read stop))
-    → ChecksBy (outcome_after_feed sheet entries) contents after result
-report-stop sheet entries read_stop.ReadFault result contents after answers reads =
-    subst (ChecksBy (outcome_after_feed sheet entries) contents after) (sym answers)
+    → ChecksBy (outcome_after_feed kind sheet entries) contents after result
+report-stop kind sheet entries read_stop.ReadFault result contents after answers reads =
+    subst (ChecksBy (outcome_after_feed kind sheet entries) contents after) (sym answers)
     (reads.0, reads.1, refl)
-report-stop sheet entries (read_stop.LineTooLong number) result contents after answers reads =
-    subst (ChecksBy (outcome_after_feed sheet entries) contents after) (sym answers)
-    (ap (outcome_of_report sheet entries contents.lines) reads)
-report-stop sheet entries (read_stop.InputTooLong number) result contents after answers reads =
-    subst (ChecksBy (outcome_after_feed sheet entries) contents after) (sym answers)
-    (ap (outcome_of_report sheet entries contents.lines) reads)
+report-stop kind sheet entries (read_stop.LineTooLong number) result contents after answers reads =
+    subst (ChecksBy (outcome_after_feed kind sheet entries) contents after) (sym answers)
+    (ap (outcome_of_report kind sheet entries contents.lines) reads)
+report-stop kind sheet entries (read_stop.InputTooLong number) result contents after answers reads =
+    subst (ChecksBy (outcome_after_feed kind sheet entries) contents after) (sym answers)
+    (ap (outcome_of_report kind sheet entries contents.lines) reads)
 
 -- ---- its lines, one after the other
 

@@ -28,7 +28,7 @@ use Rattle.cert_text.specs.declared.proof_line.ProofLine.{ProofLine}
 use Rattle.cert_text.specs.declared.proof_line.ProofLine.TheVariants as line
 use Rattle.cert_text.specs.Lines.{Part, word, clubs, array_text, part_text, reason_parts}
 use Rattle.cert_text.specs.Lines.{text_of_proof_line}
-use Rattle.cert_text.specs.TreeLines.{plain_line, marked_line, plain_lines, marked_lines}
+use Rattle.cert_text.specs.TreeLines.{marked_line, marked_lines}
 use Rattle.cert_text.specs.ExampleLines.{text_of_proof_lines}
 use Rattle.cert_text.specs.inside.Widths.{is_set_kept, is_reason_kept, is_line_kept}
 use Rattle.league_core.proofs.plain.Numbers.{bit-kept}
@@ -121,7 +121,8 @@ parts-kept (High set) = ap (λ list. word (codes "high") ∷ clubs list ∷ []) 
 parts-kept Tie = refl
 
 -- it has the same text
-text-kept : (shown : ProofLine) → text_of_proof_line (kept_line shown) ≡ text_of_proof_line shown
+pub text-kept : (shown : ProofLine)
+    → text_of_proof_line (kept_line shown) ≡ text_of_proof_line shown
 text-kept (line.Tree claim) = refl
 text-kept (line.Spent claim) = refl
 text-kept (line.SpentWindow claim low high) = refl
@@ -172,20 +173,14 @@ preorder-kept (branch test fresh yes_half no_half) =
     ∙ ap (λ (nodes : List TreeNode). Split test fresh ∷ nodes)
     (sym (map-append kept_node (preorder yes_half) (preorder no_half)))
 
--- the lines of such a tree
-lines-kept : (shown : TreeNode → ProofLine)
-    → ((node : TreeNode) → shown (kept_node node) ≡ kept_line (shown node))
-    → (nodes : List TreeNode) → map shown (map kept_node nodes) ≡ map kept_line (map shown nodes)
-lines-kept shown same [] = refl
-lines-kept shown same (node ∷ nodes) =
-    ap₂ (λ (first : ProofLine) (rest : List ProofLine). first ∷ rest) (same node)
-    (lines-kept shown same nodes)
-
-plain-kept : (node : TreeNode) → plain_line (kept_node node) ≡ kept_line (plain_line node)
-plain-kept (Split test fresh) = refl
-plain-kept Open = refl
-plain-kept (Lent number) = refl
-plain-kept (Refuted reason fresh) = refl
+-- the lines of nodes, if each node's line is kept as the node is
+pub lines-kept : {Node Line : Type 0} (keep : Node → Node) (kept : Line → Line)
+    (shown : Node → Line) → ((node : Node) → shown (keep node) ≡ kept (shown node))
+    → (nodes : List Node) → map shown (map keep nodes) ≡ map kept (map shown nodes)
+lines-kept keep kept shown same [] = refl
+lines-kept {Line = Line} keep kept shown same (node ∷ nodes) =
+    ap₂ (λ (first : Line) (rest : List Line). first ∷ rest) (same node)
+    (lines-kept keep kept shown same nodes)
 
 marked-kept : (node : TreeNode) → marked_line (kept_node node) ≡ kept_line (marked_line node)
 marked-kept (Split test true) = refl
@@ -195,14 +190,8 @@ marked-kept (Lent number) = refl
 marked-kept (Refuted reason true) = refl
 marked-kept (Refuted reason false) = refl
 
-pub plain_lines-kept : (tree : Tree)
-    → map kept_line (plain_lines tree) ≡ plain_lines (kept_tree tree)
-plain_lines-kept tree =
-    sym (lines-kept plain_line plain-kept (preorder tree))
-    ∙ ap (map plain_line) (sym (preorder-kept tree))
-
 pub marked_lines-kept : (tree : Tree)
     → map kept_line (marked_lines tree) ≡ marked_lines (kept_tree tree)
 marked_lines-kept tree =
-    sym (lines-kept marked_line marked-kept (preorder tree))
+    sym (lines-kept kept_node kept_line marked_line marked-kept (preorder tree))
     ∙ ap (map marked_line) (sym (preorder-kept tree))

@@ -24,6 +24,7 @@ pub mod ExampleLemmas
 pub mod FillLemmas
 pub mod ReportLemmas
 pub mod TruthLemmas
+pub mod FitLemmas
 pub mod AnswerLemmas
 pub mod ReadingLemmas
 pub mod FeedLemmas
@@ -36,3 +37,4 @@ pub mod BodyLemmas
 pub mod WrittenLemmas
 pub mod KeptLemmas
 pub mod KeptTreeLemmas
+pub mod KeptWideLemmas

@@ -26,6 +26,7 @@ use Rattle.cert_check.specs.declared.stop.CheckStop.TheVariants as check_stop
 use Rattle.line_tokens.specs.Tokens.{token_of, counts, counted_lines}
 use Rattle.cert_check.specs.LineLists.{NumberedLine, tokens_of, line_number_at}
 use Rattle.cert_check.specs.LineGrammars.{Ending, whole_at, bad_line, no_proof, short}
+use Rattle.cert_check.specs.declared.expected.ReportKind.{ReportKind}
 use Rattle.cert_check.specs.Machine.{basis_of}
 use Rattle.cert_check.specs.inside.Calls.{ChecksPart, ChecksEnd}
 use Rattle.cert_check.proofs.TruthLemmas.{told_truly}
@@ -44,7 +45,8 @@ use Rattle.cert_check.specs.inside.InputCalls.{GoesOverEntry, IsRefusedBy}
 
 -- a part ends within the lines
 pub part-within : (report : ReportInput) (old : ReportProgressView) (part : PartAccepted)
-    → ChecksPart (basis_of report.sheet old.season old.epoch) report.lines old.at (Ok part)
+    → ChecksPart (basis_of report.kind report.sheet old.season old.epoch) report.lines old.at
+    (Ok part)
     → old.at ≤ length report.lines → part.next ≤ length report.lines
 part-within report old part checks room =
     let told = checks.2 in
@@ -240,8 +242,8 @@ truly_from report (Ask ∷ entries) standing rows unsettled is =
     by_ending (whole_at next more) whole onward is = (
       next,
       more,
-      told_truly (basis_of report.sheet standing.season standing.epoch) report.lines standing.at
-          next more whole,
+      told_truly (basis_of report.kind report.sheet standing.season standing.epoch) report.lines
+          standing.at next more whole,
       onward (progress_after report.sheet standing next more) is,
     )
     by_ending (bad_line at) whole onward is = absurd cc
@@ -265,14 +267,15 @@ unproved_accepts_nothing : (ending : Result ℕ ReadStop) (rows unsettled : ℕ)
 unproved_accepts_nothing (Ok number) rows unsettled is = cc
 unproved_accepts_nothing (Err stop) rows unsettled is = stop_accepts_nothing stop rows unsettled is
 
-module _ (contents : Contents) (rows unsettled : ℕ) (sheet : Sheet) (behind : Contents)
+module _ (kind : ReportKind) (contents : Contents) (rows unsettled : ℕ) (sheet : Sheet)
+    (behind : Contents)
     (is_sheet : sheet_reading_of contents None ≡ record { gives = Ok sheet; rest = behind }) where
   -- by what ended the lines after the feed
   by_lines : (entries : List Entry) (rest : Contents)
       → feed_of sheet true behind [] ≡ record { entries = entries; close = Ok Proofs; rest = rest }
       → (ending : Result ℕ ReadStop) → rest.ending ≡ ending
-      → outcome_of_report sheet entries rest.lines ending ≡ Some (Accepted rows unsettled)
-      → HasTrueReport contents
+      → outcome_of_report kind sheet entries rest.lines ending ≡ Some (Accepted rows unsettled)
+      → HasTrueReport kind contents
   by_lines entries rest is_feed (Ok number) whole is = record {
     sheet = sheet;
     behind = behind;
@@ -284,6 +287,7 @@ module _ (contents : Contents) (rows unsettled : ℕ) (sheet : Sheet) (behind : 
     whole = whole;
     tells = truly_from
         (record {
+          kind = kind;
           sheet = sheet;
           lines = map Rattle.cert_check.specs.Outcomes.numbered rest.lines;
           end = number;
@@ -295,8 +299,8 @@ module _ (contents : Contents) (rows unsettled : ℕ) (sheet : Sheet) (behind : 
   -- by what ended the feed
   by_close : (entries : List Entry) (rest : Contents) (close : Result Entry FeedStop)
       → feed_of sheet true behind [] ≡ record { entries = entries; close = close; rest = rest }
-      → outcome_of_close sheet entries rest close ≡ Some (Accepted rows unsettled)
-      → HasTrueReport contents
+      → outcome_of_close kind sheet entries rest close ≡ Some (Accepted rows unsettled)
+      → HasTrueReport kind contents
   by_close entries rest (Ok (Change event)) is_feed is =
       absurd (unproved_accepts_nothing rest.ending rows unsettled is)
   by_close entries rest (Ok Ask) is_feed is =
@@ -311,19 +315,19 @@ module _ (contents : Contents) (rows unsettled : ℕ) (sheet : Sheet) (behind : 
   by_close entries rest (Err feed_stop.OutOfMemory) is_feed is = absurd cc
 
 -- an input whose report is accepted has one that tells the truth
-pub accepted_tells_truly : (contents : Contents) (rows unsettled : ℕ)
-    → outcome_of contents ≡ Some (Accepted rows unsettled) → HasTrueReport contents
-accepted_tells_truly contents rows unsettled is =
+pub accepted_tells_truly : (kind : ReportKind) (contents : Contents) (rows unsettled : ℕ)
+    → outcome_of kind contents ≡ Some (Accepted rows unsettled) → HasTrueReport kind contents
+accepted_tells_truly kind contents rows unsettled is =
     by_gives (sheet_reading_of contents None).gives refl is
   where
     by_gives : (gives : Result Sheet SheetStop) → (sheet_reading_of contents None).gives ≡ gives
-        → outcome_of_sheet (sheet_reading_of contents None).rest gives
+        → outcome_of_sheet kind (sheet_reading_of contents None).rest gives
         ≡ Some (Accepted rows unsettled)
-        → HasTrueReport contents
+        → HasTrueReport kind contents
     by_gives (Ok sheet) read is =
         let behind = (sheet_reading_of contents None).rest in
         let feed = feed_of sheet true behind [] in
-        by_close contents rows unsettled sheet behind
+        by_close kind contents rows unsettled sheet behind
         (ap (λ (g : Result Sheet SheetStop). record { gives = g; rest = behind }) read)
         feed.entries feed.rest feed.close refl is
     by_gives (Err (sheet_stop.Fault number fault)) read is = absurd cc

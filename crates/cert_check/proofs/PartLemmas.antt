@@ -11,7 +11,7 @@ use Rattle.league_core.specs.game.Questions.{full_question}
 use Rattle.cert_text.specs.declared.proof_line.ProofLine.{ProofLine}
 use Rattle.cert_text.specs.declared.proof_line.ProofLine.TheVariants as line
 use Rattle.line_tokens.specs.declared.token.Token.{Token}
-use Rattle.line_tokens.specs.declared.token.Token.TheVariants.{Blank, Row, Proof, Unknown}
+use Rattle.line_tokens.specs.declared.token.Token.TheVariants.{Blank, Row, Proof, Near, Unknown}
 use Rattle.cert_check.specs.declared.expected.RowWord.{RowWord}
 use Rattle.cert_check.specs.declared.expected.RowWord.TheVariants.{Clinched, Lost, Possible}
 use Rattle.cert_check.specs.declared.expected.RowWord.TheVariants.{Unsettled}
@@ -367,11 +367,25 @@ join_proof proved basis (one_part question) shown holds more tokens goes so part
     join_one proved basis question shown holds more tokens goes parts
 join_proof proved basis (nodes kind question zone zones tally) shown holds more tokens goes so
     parts =
-    join_nodes proved basis kind question zone zones tally shown holds more tokens goes so parts
+    join_nodes proved basis kind question zone zones tally (Proof shown) holds more tokens goes so
+    parts
 join_proof proved basis (score question ended left) shown holds more tokens goes so parts =
     join_score proved basis question ended left shown holds more tokens goes parts
 join_proof proved basis (lots question ended) shown holds more tokens goes so parts =
     join_lots proved basis question ended shown holds more tokens goes so parts
+
+-- a near leaf with what is due after it
+join_near : (proved : Bool) (basis : Basis) (due : Expected) (rival : ℕ) (fresh holds : Bool)
+    (more : List Expected) (tokens : List Token)
+    → after basis due (Near rival fresh) ≡ go holds more → (proved ≡ true → holds ≡ true)
+    → AreParts proved basis more tokens
+    → IsPartFor proved basis due (Near rival fresh ∷ tokens)
+join_near proved basis (nodes kind question zone zones tally) rival fresh holds more tokens goes so
+    parts =
+    join_nodes proved basis kind question zone zones tally (Near rival fresh) holds more tokens goes
+    so parts
+join_near proved basis _ rival fresh holds more tokens goes so parts =
+    absurd (bad-go holds more goes)
 
 -- a line that counts, with what is due after it, is a part
 pub join_part : (proved : Bool) (basis : Basis) (due : Expected) (token : Token) (holds : Bool)
@@ -384,6 +398,8 @@ join_part proved basis due (Row fields) holds more tokens counted goes so parts 
     join_row proved basis due fields holds more tokens goes parts
 join_part proved basis due (Proof shown) holds more tokens counted goes so parts =
     join_proof proved basis due shown holds more tokens goes so parts
+join_part proved basis due (Near rival fresh) holds more tokens counted goes so parts =
+    join_near proved basis due rival fresh holds more tokens goes so parts
 join_part proved basis due Unknown holds more tokens counted goes so parts =
     absurd (bad-go holds more goes)
 

@@ -2,7 +2,7 @@
 use Rattle.std.proofs.Common.{◌≡◌, true, false, [], ◌∷◌, refl, sym}
 use Rattle.std.proofs.lemmas.Bool.{false≢true}
 use Rattle.line_tokens.specs.declared.token.Token.{Token}
-use Rattle.line_tokens.specs.declared.token.Token.TheVariants.{Blank, Row, Proof, Unknown}
+use Rattle.line_tokens.specs.declared.token.Token.TheVariants.{Blank, Row, Proof, Near, Unknown}
 use Rattle.line_tokens.specs.Tokens.{counts}
 use Rattle.cert_check.specs.LineGrammars.{go}
 use Rattle.cert_check.specs.ExpectedItems.{Basis, Expected, after}
@@ -22,6 +22,7 @@ passed_over : (basis : Basis) (due : Expected) (token : Token) → counts token 
 passed_over basis due Blank passed = refl
 passed_over basis due (Row fields) passed = absurd (false≢true (sym passed))
 passed_over basis due (Proof shown) passed = absurd (false≢true (sym passed))
+passed_over basis due (Near rival fresh) passed = absurd (false≢true (sym passed))
 passed_over basis due Unknown passed = absurd (false≢true (sym passed))
 
 -- it is no row
@@ -29,6 +30,7 @@ no_row : (token : Token) → counts token ≡ false → is_unsettled_row token �
 no_row Blank passed = refl
 no_row (Row fields) passed = absurd (false≢true (sym passed))
 no_row (Proof shown) passed = refl
+no_row (Near rival fresh) passed = refl
 no_row Unknown passed = refl
 
 reads_parts : (basis : Basis) → ReadsParts report_parts basis

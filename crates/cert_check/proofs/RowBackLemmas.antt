@@ -177,7 +177,7 @@ row_back first second fields plain opens within whole =
     ∙ ap (option_map (λ (r : Read). r.0))
     (cut_read st.StartRecord [] [] body row written within) in
     ap (λ b. cond b (Rattle.line_tokens.specs.Tokens.token_of_line
-    (Rattle.cert_text.specs.Forms.line_in body)) (token_of_row body)) opens
+    (Rattle.wide_lines.specs.WideTexts.wide_line_in body)) (token_of_row body)) opens
     ∙ ap (λ b. cond b Rattle.line_tokens.specs.declared.token.Token.TheVariants.Unknown
     (token_of_record (record_of body))) (no_return body (body_within row within))
     ∙ ap (λ found. token_of_record

@@ -7,16 +7,15 @@ use Rattle.std.proofs.lemmas.List.Folds.{list_all-append, list_all-map}
 use Rattle.league_core.specs.declared.question.Claim.TheVariants.{Inside, Outside}
 use Rattle.league_core.specs.declared.question.Question.{Question}
 use Rattle.league_core.specs.declared.zone.Literal.{Literal}
-use Rattle.league_core.specs.declared.tree.TreeNode.{TreeNode}
-use Rattle.league_core.specs.declared.tree.TreeNode.TheVariants as node
 use Rattle.league_core.specs.game.Verdicts.{HasExample, HasNoExample}
 use Rattle.league_core.specs.game.Questions.{full_question}
-use Rattle.league_core.specs.search.Trees.{Tree}
-use Rattle.league_core.proofs.TreeLemmas.{NodesMeet-weaker}
+use Rattle.league_core.specs.search.Zones.{with_test}
+use Rattle.league_core.proofs.GivenLemmas.{none_at_root}
 use Rattle.league_core.proofs.ClubSetLemmas.{has_club-range}
 use Rattle.league_core.proofs.ClubLemmas.{all_members}
-use Rattle.reason_laws.specs.inside.Refutations.{IsRefutedLeaf}
-use Rattle.reason_laws.proofs.RefutationLemmas.{refutation_shows}
+use Rattle.wide_lines.specs.WideTrees.{WideTree, open_leaf, refuted_leaf, branch, WideNodesMeet}
+use Rattle.wide_lines.specs.WideTrees.{is_wide_refuted, AreWideReasonsTrue}
+use Rattle.wide_lines.proofs.WideTreeLemmas.{refuted_below}
 use Rattle.line_tokens.specs.declared.token.Token.{Token}
 use Rattle.cert_check.specs.declared.expected.RowWord.{RowWord}
 use Rattle.cert_check.specs.declared.expected.RowWord.TheVariants.{Clinched, Lost, Possible}
@@ -35,14 +34,16 @@ use Rattle.cert_check.specs.Machine.{part_ending}
 use Rattle.cert_check.specs.inside.Calls.{SaysTruly}
 use Rattle.cert_check.proofs.ReportLemmas.{accepted_is_proved}
 
--- a node of a proved refutation is a split, or a leaf whose reason holds
-refuted_leaf_fits : (basis : Basis) (question : Question) (zone : List Literal) (it : TreeNode)
-    → NodeFits true basis Refutation question zone it
-    → IsRefutedLeaf basis.sheet basis.season question zone it
-refuted_leaf_fits basis question zone (node.Split test fresh) fits = tt
-refuted_leaf_fits basis question zone (node.Refuted reason fresh) fits = fits.1
-refuted_leaf_fits basis question zone node.Open fits = absurd fits
-refuted_leaf_fits basis question zone (node.Lent number) fits = absurd fits
+-- each leaf of a proved refutation is refuted, by a reason that holds
+refuted_parts : (basis : Basis) (question : Question) (tree : WideTree) (zone : List Literal)
+    → WideNodesMeet (NodeFits true basis Refutation question) zone tree
+    → (is_wide_refuted tree ≡ true) × AreWideReasonsTrue basis.sheet basis.season question zone tree
+refuted_parts basis question open_leaf zone fits = absurd fits
+refuted_parts basis question (refuted_leaf reason fresh) zone fits = (refl, fits.1)
+refuted_parts basis question (branch test fresh yes_half no_half) zone fits =
+    let yes = refuted_parts basis question yes_half (with_test zone test true) fits.1 in
+    let no = refuted_parts basis question no_half (with_test zone test false) fits.2 in
+    (and_from (is_wide_refuted yes_half) (is_wide_refuted no_half) yes.0 no.0, (tt, yes.1, no.1))
 
 -- a proved refutation leaves the question no example
 refutation_decides : (basis : Basis) (question : Question) (tokens : List Token)
@@ -50,14 +51,13 @@ refutation_decides : (basis : Basis) (question : Question) (tokens : List Token)
     → HasNoExample basis.sheet basis.season question
 refutation_decides basis question tokens club_in part = by_trees part.1.0 part.1.1
   where
-    by_trees : (trees : List Tree) → TreesFit true basis Refutation question ([] ∷ []) trees
+    by_trees : (trees : List WideTree) → TreesFit true basis Refutation question ([] ∷ []) trees
         → HasNoExample basis.sheet basis.season question
     by_trees [] fits = absurd fits
     by_trees (tree ∷ trees) fits =
-        refutation_shows basis.sheet basis.season question tree club_in
-        (NodesMeet-weaker (NodeFits true basis Refutation question)
-        (IsRefutedLeaf basis.sheet basis.season question) (refuted_leaf_fits basis question) tree
-        [] fits.0)
+        let both = refuted_parts basis question tree [] fits.0 in
+        none_at_root basis.sheet basis.season question
+        (refuted_below basis.sheet basis.season question tree [] club_in both.0 both.1)
 
 -- a proved example is one
 example_is : (basis : Basis) (question : Question) (tokens : List Token)

@@ -11,19 +11,21 @@ use Rattle.league_core.specs.declared.question.Claim.TheVariants.{Inside, Outsid
 use Rattle.league_core.specs.declared.question.Question.{Question}
 use Rattle.league_core.specs.declared.zone.Test.{Test}
 use Rattle.league_core.specs.declared.zone.Literal.{Literal}
-use Rattle.league_core.specs.declared.tree.TreeNode.{TreeNode}
-use Rattle.league_core.specs.declared.tree.TreeNode.TheVariants as node
 use Rattle.league_core.specs.game.Results.{Results}
 use Rattle.league_core.specs.game.Ranking.{are_lots}
 use Rattle.league_core.specs.game.Questions.{holds_at, full_question}
 use Rattle.league_core.specs.search.Zones.{with_test}
-use Rattle.league_core.specs.search.Reasons.{has_reason}
 use Rattle.cert_text.specs.declared.proof_line.ProofLine.{ProofLine}
 use Rattle.cert_text.specs.declared.proof_line.ProofLine.TheVariants as line
 use Rattle.fixture_sheet.specs.Fields.{field}
 use Rattle.cert_text.specs.TreeLines.{is_test_for}
+use Rattle.wide_lines.specs.declared.wide_reason.WideReason.{WideReason}
+use Rattle.wide_lines.specs.declared.wide_reason.WideReason.TheVariants as why
+use Rattle.wide_lines.specs.declared.wide_node.WideNode.{WideNode}
+use Rattle.wide_lines.specs.declared.wide_node.WideNode.TheVariants as node
+use Rattle.wide_lines.specs.WideReasons.{has_wide_reason}
 use Rattle.line_tokens.specs.declared.token.Token.{Token}
-use Rattle.line_tokens.specs.declared.token.Token.TheVariants.{Blank, Row, Proof, Unknown}
+use Rattle.line_tokens.specs.declared.token.Token.TheVariants.{Blank, Row, Proof, Near, Unknown}
 use Rattle.cert_check.specs.declared.expected.RowWord.{RowWord}
 use Rattle.cert_check.specs.declared.expected.RowWord.TheVariants.{Clinched, Lost, Possible}
 use Rattle.cert_check.specs.declared.expected.RowWord.TheVariants.{Unsettled}
@@ -32,12 +34,16 @@ use Rattle.cert_check.specs.declared.expected.Head.TheVariants.{RefutedTree, Spe
 use Rattle.line_tokens.specs.declared.tree_line.TreeKind.{TreeKind}
 use Rattle.line_tokens.specs.declared.tree_line.TreeKind.TheVariants.{Refutation, Spent}
 use Rattle.cert_check.specs.declared.expected.Tally.{Tally}
-use Rattle.line_tokens.specs.LineRanges.{name_of_club, is_reason_for, same_claim}
-use Rattle.line_tokens.specs.TreeNodes.{node_in}
+use Rattle.cert_check.specs.declared.expected.ReportKind.{ReportKind}
+use Rattle.cert_check.specs.declared.expected.ReportKind.TheVariants.{Plain, Wide}
+use Rattle.line_tokens.specs.LineRanges.{name_of_club, is_wide_reason_for, same_claim}
+use Rattle.line_tokens.specs.TreeNodes.{wide_node_in}
 use Rattle.cert_check.specs.LineGrammars.{Next, bad, go}
 
--- what a part of a report is judged by: the sheet, and the season and the epoch of its ask
+-- what a part of a report is judged by: the kind of the report, the sheet, and the season and the
+-- epoch of its ask
 pub record Basis : Type 0 where
+  pub kind : ReportKind
   pub sheet : Sheet
   pub season : Results
   pub epoch : ℕ
@@ -111,6 +117,17 @@ word_in_row line name fields = word_if_about (is_row_about line name fields) (fi
 abbrev pub is_path_for : Sheet → Question → List Literal → Bool
 is_path_for sheet question zone = list_all (λ it. is_test_for sheet question it.test) zone
 
+-- a report of this kind may have such leaves: near ones stand in wide reports alone
+abbrev pub may_have : ReportKind → WideReason → Bool
+may_have kind (why.Plain reason) = true
+may_have Plain (why.Near rival) = false
+may_have Wide (why.Near rival) = true
+
+-- a reason that a leaf of a tree for the question may have in a report of this kind
+abbrev pub may_refute : ReportKind → Sheet → Question → WideReason → Bool
+may_refute kind sheet question reason =
+    may_have kind reason && is_wide_reason_for sheet question reason
+
 -- a score with which an unplayed match may end
 abbrev pub is_ending : Sheet → Score → Bool
 is_ending sheet ending = nat_le ending.home sheet.goal_limit && nat_le ending.away sheet.goal_limit
@@ -149,21 +166,20 @@ after_split kind question zone zones tally test =
 
 -- what is due after a node
 abbrev pub after_node : Basis → TreeKind → Question → List Literal → List (List Literal) → Tally
-    → TreeNode → Next Expected
+    → WideNode → Next Expected
 after_node basis kind question zone zones tally (node.Split test fresh) =
     if is_test_for basis.sheet question test
     then after_split kind question zone zones (with_fresh fresh tally) test else bad
 after_node basis kind question zone zones tally (node.Refuted reason fresh) =
-    if is_reason_for basis.sheet question reason
+    if may_refute basis.kind basis.sheet question reason
     then after_leaf basis kind question zones (with_fresh fresh tally)
-    (has_reason basis.sheet basis.season question zone reason) else bad
+    (has_wide_reason basis.sheet basis.season question zone reason) else bad
 after_node basis kind question zone zones tally node.Open =
     after_leaf basis kind question zones (with_open tally) true
-after_node basis kind question zone zones tally (node.Lent number) = bad
 
 -- what is due after a line that may stand for a node
 abbrev pub after_node_if : Basis → TreeKind → Question → List Literal → List (List Literal)
-    → Tally → Option TreeNode → Next Expected
+    → Tally → Option WideNode → Next Expected
 after_node_if basis kind question zone zones tally None = bad
 after_node_if basis kind question zone zones tally (Some it) =
     after_node basis kind question zone zones tally it
@@ -301,13 +317,20 @@ after_proof basis (both_parts line club) it =
 after_proof basis (one_part question) it =
     after_one_part basis question (head_in question.claim it)
 after_proof basis (nodes kind question zone zones tally) it =
-    after_node_if basis kind question zone zones tally (node_in kind it)
+    after_node_if basis kind question zone zones tally (wide_node_in kind (Proof it))
 after_proof basis (score question ended left) it = after_score basis question ended left it
 after_proof basis (lots question ended) it = after_lots basis question ended it
+
+-- a near leaf when something is due
+abbrev pub after_near : Basis → Expected → ℕ → Bool → Next Expected
+after_near basis (nodes kind question zone zones tally) rival fresh =
+    after_node_if basis kind question zone zones tally (wide_node_in kind (Near rival fresh))
+after_near basis _ rival fresh = bad
 
 -- any line when something is due; a line that is passed over leaves it due
 abbrev pub after : Basis → Expected → Token → Next Expected
 after basis due Blank = go true (due ∷ [])
 after basis due (Row fields) = after_row basis due fields
 after basis due (Proof it) = after_proof basis due it
+after basis due (Near rival fresh) = after_near basis due rival fresh
 after basis due Unknown = bad

@@ -6,7 +6,8 @@ use Rattle.league_core.specs.declared.sheet.Sheet.{Sheet}
 use Rattle.league_core.specs.game.Sheets.{clubs_of}
 use Rattle.league_core.specs.game.Results.{Results}
 use Rattle.line_tokens.specs.declared.token.Token.{Token}
-use Rattle.line_tokens.specs.declared.token.Token.TheVariants.{Blank, Row, Proof, Unknown}
+use Rattle.line_tokens.specs.declared.token.Token.TheVariants.{Blank, Row, Proof, Near, Unknown}
+use Rattle.cert_check.specs.declared.expected.ReportKind.{ReportKind}
 use Rattle.cert_check.specs.LineGrammars.{LineGrammar, Ending, ending_by}
 use Rattle.cert_check.specs.ExpectedItems.{Basis, Expected, ask_row, verdict_row}
 use Rattle.cert_check.specs.ExpectedItems.{after}
@@ -17,6 +18,7 @@ abbrev pub is_unsettled_row : Token → Bool
 is_unsettled_row Blank = false
 is_unsettled_row (Row fields) = bytes_eq (get_or fields 3 []) (codes "unsettled")
 is_unsettled_row (Proof it) = false
+is_unsettled_row (Near rival fresh) = false
 is_unsettled_row Unknown = false
 
 -- one more, if the line is such a row
@@ -44,9 +46,10 @@ rows_of sheet = flat_map (rows_on_line (clubs_of sheet)) sheet.lines
 abbrev pub part_of_ask : Sheet → List Expected
 part_of_ask sheet = ask_row ∷ rows_of sheet
 
--- the sheet, the season and the epoch of an ask, as a basis
-abbrev pub basis_of : Sheet → Results → ℕ → Basis
-basis_of sheet season epoch = record { sheet = sheet; season = season; epoch = epoch }
+-- the kind of a report, and the sheet, the season and the epoch of an ask, as a basis
+abbrev pub basis_of : ReportKind → Sheet → Results → ℕ → Basis
+basis_of kind sheet season epoch =
+    record { kind = kind; sheet = sheet; season = season; epoch = epoch }
 
 -- what the lines from a position on come to as the part of one ask
 abbrev pub part_ending : Basis → List NumberedLine → ℕ → Ending

@@ -22,6 +22,7 @@ use Rattle.result_log.specs.declared.fault.FeedStop.TheVariants as feed_stop
 use Rattle.result_log.specs.Feeds.{Feed, feed_of, season_with, count_with}
 use Rattle.line_tokens.specs.Tokens.{token_of, counts}
 use Rattle.cert_check.specs.LineLists.{NumberedLine, line_number_at}
+use Rattle.cert_check.specs.declared.expected.ReportKind.{ReportKind}
 use Rattle.cert_check.specs.LineGrammars.{Ending, whole_at, bad_line, no_proof, short}
 use Rattle.cert_check.specs.Machine.{basis_of, part_ending}
 use Rattle.cert_check.specs.declared.outcome.ReportFault.{ReportFault}
@@ -39,9 +40,10 @@ report_code_of Short = codes "short"
 
 -- ---- the report
 
--- a report: the sheet that it is of, its lines with their numbers, and the number after the last
--- line of the input
+-- a report: its kind, the sheet that it is of, its lines with their numbers, and the number after
+-- the last line of the input
 pub record ReportInput : Type 0 where
+  pub kind : ReportKind
   pub sheet : Sheet
   pub lines : List NumberedLine
   pub end : ℕ
@@ -96,7 +98,8 @@ outcome_by report standing short onward = Refused report.end Short
 -- what the lines from a position on come to as the part of an ask
 abbrev pub part_there : ReportInput → ReportProgressView → Ending
 part_there report standing =
-    part_ending (basis_of report.sheet standing.season standing.epoch) report.lines standing.at
+    part_ending (basis_of report.kind report.sheet standing.season standing.epoch) report.lines
+    standing.at
 
 -- an ask has a part of the report, any other entry has none
 abbrev pub outcome_after : ReportInput → ReportProgressView → Entry
@@ -135,12 +138,13 @@ outcome_of_stop (read_stop.LineTooLong number) = Some (LineTooLong number)
 outcome_of_stop (read_stop.InputTooLong number) = Some (InputTooLong number)
 
 -- what the lines after the record `proofs` come to: the input is read to its end first
-abbrev pub outcome_of_report : Sheet → List Entry → List (ℕ × List ℕ) → Result ℕ ReadStop
-    → Option CheckOutcome
-outcome_of_report sheet entries lines (Ok number) =
-    Some (outcome_from (record { sheet = sheet; lines = map numbered lines; end = number }) entries
+abbrev pub outcome_of_report : ReportKind → Sheet → List Entry → List (ℕ × List ℕ)
+    → Result ℕ ReadStop → Option CheckOutcome
+outcome_of_report kind sheet entries lines (Ok number) =
+    Some (outcome_from
+    (record { kind = kind; sheet = sheet; lines = map numbered lines; end = number }) entries
     (first_progress sheet))
-outcome_of_report sheet entries lines (Err stop) = outcome_of_stop stop
+outcome_of_report kind sheet entries lines (Err stop) = outcome_of_stop stop
 
 -- the input ended before the record `proofs`, at the number after its last line's, or it stopped
 abbrev pub outcome_unproved : Result ℕ ReadStop → Option CheckOutcome
@@ -154,18 +158,19 @@ outcome_of_feed_stop (feed_stop.Read stop) = outcome_of_stop stop
 outcome_of_feed_stop feed_stop.OutOfMemory = None
 
 -- what a feed and the contents after it come to, by what ended the feed
-abbrev pub outcome_of_close : Sheet → List Entry → Contents → Result Entry FeedStop
+abbrev pub outcome_of_close : ReportKind → Sheet → List Entry → Contents → Result Entry FeedStop
     → Option CheckOutcome
-outcome_of_close sheet entries rest (Ok (Change event)) = outcome_unproved rest.ending
-outcome_of_close sheet entries rest (Ok Ask) = outcome_unproved rest.ending
-outcome_of_close sheet entries rest (Ok Proofs) =
-    outcome_of_report sheet entries rest.lines rest.ending
-outcome_of_close sheet entries rest (Ok End) = outcome_unproved rest.ending
-outcome_of_close sheet entries rest (Err stop) = outcome_of_feed_stop stop
+outcome_of_close kind sheet entries rest (Ok (Change event)) = outcome_unproved rest.ending
+outcome_of_close kind sheet entries rest (Ok Ask) = outcome_unproved rest.ending
+outcome_of_close kind sheet entries rest (Ok Proofs) =
+    outcome_of_report kind sheet entries rest.lines rest.ending
+outcome_of_close kind sheet entries rest (Ok End) = outcome_unproved rest.ending
+outcome_of_close kind sheet entries rest (Err stop) = outcome_of_feed_stop stop
 
 -- the same of a feed
-abbrev pub outcome_of_feed : Sheet → Feed → Option CheckOutcome
-outcome_of_feed sheet feed = outcome_of_close sheet feed.entries feed.rest feed.close
+abbrev pub outcome_of_feed : ReportKind → Sheet → Feed → Option CheckOutcome
+outcome_of_feed kind sheet feed =
+    outcome_of_close kind sheet feed.entries feed.rest feed.close
 
 -- what a sheet that is not whole comes to
 abbrev pub outcome_of_sheet_stop : SheetStop → Option CheckOutcome
@@ -174,11 +179,14 @@ outcome_of_sheet_stop (sheet_stop.Read stop) = outcome_of_stop stop
 outcome_of_sheet_stop sheet_stop.OutOfMemory = None
 
 -- what the contents after a sheet come to: the feed is read in the season of its own events
-abbrev pub outcome_of_sheet : Contents → Result Sheet SheetStop → Option CheckOutcome
-outcome_of_sheet rest (Ok sheet) = outcome_of_feed sheet (feed_of sheet true rest [])
-outcome_of_sheet rest (Err stop) = outcome_of_sheet_stop stop
+abbrev pub outcome_of_sheet : ReportKind → Contents → Result Sheet SheetStop
+    → Option CheckOutcome
+outcome_of_sheet kind rest (Ok sheet) = outcome_of_feed kind sheet (feed_of sheet true rest [])
+outcome_of_sheet kind rest (Err stop) = outcome_of_sheet_stop stop
 
--- what the contents of an input come to; nothing yet, if the source failed before that was known
-abbrev pub outcome_of : Contents → Option CheckOutcome
-outcome_of contents =
-    outcome_of_sheet (sheet_reading_of contents None).rest (sheet_reading_of contents None).gives
+-- what the contents of an input come to, with a report of this kind; nothing yet, if the source
+-- failed before that was known
+abbrev pub outcome_of : ReportKind → Contents → Option CheckOutcome
+outcome_of kind contents =
+    outcome_of_sheet kind (sheet_reading_of contents None).rest
+    (sheet_reading_of contents None).gives

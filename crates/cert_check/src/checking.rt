@@ -8,6 +8,7 @@ ghost use Rattle.cert_check.specs.inside.Calls.{GoesOverAll, ChecksPart, ChecksE
 ghost use Rattle.cert_check.specs.Machine.{basis_of};
 ghost use Rattle.cert_check.specs.LineLists.{tokens_of};
 
+use crate::expected::AskedPart;
 use crate::item::PartRead;
 use crate::line_list::LineList;
 use crate::report::Report;
@@ -18,22 +19,23 @@ use line_tokens::counts;
 use std::alloc::Global;
 
 /// Checks the lines from a position on, from 0, as the part of a report that answers one ask of a
-/// season; `epoch` is how many events the season took. `BadLine` and `NoProof` name the line at
+/// season. `BadLine` and `NoProof` name the line at
 /// which the reading stops, by its number in the input; `Short` and running out of memory name
 /// none.
 pub fn check(
     alloc: Global,
     sheet: &Sheet,
     season: &Season,
-    epoch: u64,
+    asked: AskedPart,
     lines: &LineList,
     from: usize,
 ) -> Result<Accepted, CheckStop>
     requires league { IsLeague sheet.now season.now }
     requires room { from ≤ length lines.now }
-    ensures { ChecksPart (basis_of sheet.now season.now epoch) lines.now from result }
+    ensures { ChecksPart (basis_of asked.kind sheet.now season.now asked.epoch) lines.now from
+        result }
 {
-    match part_from(alloc, sheet, season, epoch, lines, from) {
+    match part_from(alloc, sheet, season, asked, lines, from) {
         Ok(found) => Ok(Accepted {
             next: found.next,
             rows: row_count(sheet),
@@ -55,14 +57,14 @@ fn part_from(
     alloc: Global,
     sheet: &Sheet,
     season: &Season,
-    epoch: u64,
+    asked: AskedPart,
     lines: &LineList,
     from: usize,
 ) -> Result<PartRead, CheckStopAt>
     requires league { IsLeague sheet.now season.now }
     requires room { from ≤ length lines.now }
     ensures { GoesOverAll (record {
-      basis = basis_of sheet.now season.now epoch;
+      basis = basis_of asked.kind sheet.now season.now asked.epoch;
       tokens = tokens_of lines.now;
     }) from (part_of_ask sheet.now) result }
 {
@@ -70,7 +72,7 @@ fn part_from(
         alloc,
         sheet,
         season,
-        epoch,
+        asked,
         lines,
         root: Trail::new(alloc, sheet, season)?,
     };

@@ -1,4 +1,20 @@
-//! What distinguishes a report's parts.
+//! What distinguishes reports and their parts.
+
+/// What the leaves of a report's trees may be.
+#[derive(Clone, Copy, Debug, PartialEq, Eq)]
+pub enum ReportKind {
+    /// No leaf is refuted by a near reason.
+    Plain,
+    /// Leaves may be.
+    Wide,
+}
+
+/// What a part of a report answers: an ask after so many events, in a report of this kind.
+#[derive(Clone, Copy)]
+pub struct AskedPart {
+    pub kind: ReportKind,
+    pub epoch: u64,
+}
 
 /// The word of a verdict row.
 #[derive(Clone, Copy)]

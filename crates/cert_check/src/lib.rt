@@ -30,7 +30,7 @@ mod stop;
 mod tree;
 
 pub use checking::{check, check_end};
-pub use expected::{Head, RowWord, Tally};
+pub use expected::{AskedPart, Head, ReportKind, RowWord, Tally};
 pub use feed::{FeedRead, FeedSoFar, read_feed};
 pub use input_laws::{
     accepted_inputs_tell_truly, written_lines_read_back, written_reports_read_back,
@@ -42,6 +42,7 @@ pub use laws::{
 };
 pub use line_list::LineList;
 pub use lines::{LinesStop, ReportLines, read_lines};
+pub use ranges::may_refute;
 pub use outcome::{CheckFailure, CheckOutcome, ReportFault};
 pub use report::Report;
 pub use stop::{Accepted, CheckStop, CheckStopAt};

@@ -7,6 +7,7 @@ ghost use Rattle.cert_check.specs.LineLists.{tokens_of};
 ghost use Rattle.cert_check.specs.Machine.{basis_of};
 ghost use Rattle.cert_check.specs.inside.Calls.{IsNextAt, FindsNext};
 
+use crate::expected::{AskedPart, ReportKind};
 use crate::line_list::LineList;
 use crate::stop::CheckStopAt;
 use check_bounds::Trail;
@@ -15,14 +16,14 @@ use line_tokens::{Token, counts};
 use std::alloc::Global;
 use std::marker::Model;
 
-/// The lines of a report with the sheet, the season and the epoch by which they are judged.
+/// The lines of a report with the sheet, the season and the ask by which they are judged.
 /// Contracts see what each line is.
 #[derive(Drop)]
 pub struct Report<'a> {
     pub alloc: Global,
     pub sheet: &'a Sheet,
     pub season: &'a Season,
-    pub epoch: u64,
+    pub asked: AskedPart,
     pub lines: &'a LineList,
     /// The way to the whole season, of which each tree takes a copy.
     pub root: Trail<'a>,
@@ -38,7 +39,7 @@ impl<'a> Model for Report<'a> {
     ghost use Rattle.cert_check.specs.inside.Calls.{IsJudgedFrom};
 
     ghost view = { λ report. record {
-      basis = basis_of report.sheet.now report.season.now report.epoch;
+      basis = basis_of report.asked.kind report.sheet.now report.season.now report.asked.epoch;
       tokens = tokens_of report.lines.now;
     } };
 
@@ -51,12 +52,12 @@ impl<'a> Report<'a> {
         alloc: Global,
         sheet: &'a Sheet,
         season: &'a Season,
-        epoch: u64,
+        asked: AskedPart,
         lines: &'a LineList,
     ) -> Result<Report<'a>, OutOfMemory>
         requires { IsLeague sheet.now season.now }
         ensures { IfOk result (λ report. report ≡ record {
-          basis = basis_of sheet.now season.now epoch;
+          basis = basis_of asked.kind sheet.now season.now asked.epoch;
           tokens = tokens_of lines.now;
         }) }
     {
@@ -64,7 +65,7 @@ impl<'a> Report<'a> {
             alloc,
             sheet,
             season,
-            epoch,
+            asked,
             lines,
             root: Trail::new(alloc, sheet, season)?,
         })
@@ -90,6 +91,13 @@ impl<'a> Report<'a> {
         ensures { result.now ≡ self.now.basis.sheet }
     {
         self.sheet
+    }
+
+    /// Of which kind the report is.
+    pub fn kind(&self) -> ReportKind
+        ensures { result ≡ self.now.basis.kind }
+    {
+        self.asked.kind
     }
 
     /// The season by which they are.

@@ -40,7 +40,7 @@ impl<'a> Report<'a> {
     {
         match token {
             Token::Row(fields) => {
-                let epoch = decimal_of(self.alloc, self.epoch)?;
+                let epoch = decimal_of(self.alloc, self.asked.epoch)?;
                 Ok(is_ask_row(fields, epoch.as_str()))
             }
             _ => Ok(false),

@@ -2,7 +2,8 @@
 
 ghost use Rattle.std.specs.Prelude.{◌≡◌, ◌<◌, ◌≤◌, ◌+◌, ◌^◌, IsTrue, OnOk, true, length};
 ghost use Rattle.league_core.specs.game.Questions.{IsQuestionOf};
-ghost use Rattle.league_core.specs.search.Reasons as reasons;
+ghost use Rattle.line_tokens.specs.LineRanges.{is_wide_reason_for};
+ghost use Rattle.wide_lines.specs.WideReasons.{has_wide_reason};
 ghost use Rattle.line_tokens.specs.Tokens.{counts};
 ghost use Rattle.cert_check.specs.ExpectedItems.{whole_tree, after};
 ghost use Rattle.cert_check.specs.ExpectedItems as dues;
@@ -12,11 +13,13 @@ ghost use Rattle.cert_check.specs.inside.Calls.{IsPathFor, after_walked};
 
 use crate::expected::Tally;
 use crate::path::next_half;
+use crate::ranges::may_refute;
 use crate::report::Report;
 use crate::stop::CheckStopAt;
 use check_bounds::Trail;
-use league_core::{Literal, Question, Reason, Test, TreeNode};
-use line_tokens::{Token, TreeKind, is_reason_for, is_test_for, node_of};
+use league_core::{Literal, Question, Test};
+use line_tokens::{Token, TreeKind, is_test_for, wide_node_of};
+use wide_lines::{WideNode, WideReason};
 
 // What kind of tree, for which question.
 #[derive(Clone, Copy)]
@@ -74,16 +77,15 @@ impl<'a> Report<'a> {
         ensures path { OnOk result (IsPathFor self.now.basis wanted.question walk.new.path) }
         ensures few { walk.new.tally.news ≤ walk.old.tally.news + 1 }
     {
-        match node_of(wanted.kind, token) {
-            Some(TreeNode::Split { test, fresh }) => self.take_split(at, test, fresh, wanted, walk),
-            Some(TreeNode::Refuted { reason, fresh }) => {
+        match wide_node_of(wanted.kind, token) {
+            Some(WideNode::Split { test, fresh }) => self.take_split(at, test, fresh, wanted, walk),
+            Some(WideNode::Refuted { reason, fresh }) => {
                 self.take_refuted(at, reason, fresh, wanted, walk)
             }
-            Some(TreeNode::Open) => {
+            Some(WideNode::Open) => {
                 walk.tally.some_open = true;
                 self.leave(at, wanted, walk)
             }
-            Some(TreeNode::Lent(_)) => Err(CheckStopAt::BadLine(at)),
             None => Err(CheckStopAt::BadLine(at)),
         }
     }
@@ -99,7 +101,7 @@ impl<'a> Report<'a> {
         requires path { IsPathFor self.now.basis wanted.question walk.old.path }
         requires few { walk.old.tally.news + 1 < 2 ^ 64 }
         ensures says { NodeSays
-            (after_walked self.now.basis wanted walk.old (TreeNode.Split test fresh))
+            (after_walked self.now.basis wanted walk.old (WideNode.Split test fresh))
             at (nodes_due wanted walk.new) result }
         ensures path { OnOk result (IsPathFor self.now.basis wanted.question walk.new.path) }
         ensures few { walk.new.tally.news ≤ walk.old.tally.news + 1 }
@@ -115,7 +117,7 @@ impl<'a> Report<'a> {
     fn take_refuted(
         &self,
         at: usize,
-        reason: Reason,
+        reason: WideReason,
         fresh: bool,
         wanted: TreeSpec,
         walk: &mut Walk,
@@ -124,12 +126,12 @@ impl<'a> Report<'a> {
         requires path { IsPathFor self.now.basis wanted.question walk.old.path }
         requires few { walk.old.tally.news + 1 < 2 ^ 64 }
         ensures says { NodeSays
-            (after_walked self.now.basis wanted walk.old (TreeNode.Refuted reason fresh))
+            (after_walked self.now.basis wanted walk.old (WideNode.Refuted reason fresh))
             at (nodes_due wanted walk.new) result }
         ensures path { OnOk result (IsPathFor self.now.basis wanted.question walk.new.path) }
         ensures few { walk.new.tally.news ≤ walk.old.tally.news + 1 }
     {
-        if !is_reason_for(self.sheet, &wanted.question, reason) {
+        if !may_refute(self.asked.kind, self.sheet, &wanted.question, reason) {
             return Err(CheckStopAt::BadLine(at));
         }
         if !self.has_reason(&wanted.question, &walk.path, reason) {
@@ -140,13 +142,17 @@ impl<'a> Report<'a> {
     }
 
     // The reason holds in the zone that is due.
-    fn has_reason(&self, question: &Question, path: &Trail, reason: Reason) -> bool
+    fn has_reason(&self, question: &Question, path: &Trail, reason: WideReason) -> bool
         requires question { IsQuestionOf self.now.basis.sheet question.now }
         requires path { IsPathFor self.now.basis question.now path.now }
-        ensures { result ≡ reasons.has_reason self.now.basis.sheet
+        requires fits { IsTrue (is_wide_reason_for self.now.basis.sheet question.now reason) }
+        ensures { result ≡ has_wide_reason self.now.basis.sheet
             self.now.basis.season question.now path.now.zone reason }
     {
-        path.holds(question, reason)
+        match reason {
+            WideReason::Plain(reason) => path.holds(question, reason),
+            WideReason::Near(rival) => path.has_near(question, rival),
+        }
     }
 
     // Leaves a leaf that proves what it says.

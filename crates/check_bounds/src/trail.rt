@@ -7,11 +7,13 @@ ghost use Rattle.league_core.specs.game.Seasons.{IsLeague};
 ghost use Rattle.league_core.specs.game.Questions.{IsQuestionOf};
 ghost use Rattle.league_core.specs.search.Reasons.{has_reason};
 ghost use Rattle.league_core.specs.search.Zones.{is_test_of, is_zone_of};
+ghost use Rattle.near_laws.specs.Near.{has_near_reason};
 ghost use Rattle.club_keys.specs.inside.KeyEnds.{AreKeyEnds};
 ghost use Rattle.check_bounds.specs.inside.Trails.{root_of, farther};
 
 use crate::cells::Cells;
 use crate::key_ends::ends_over;
+use crate::near::has_near_over;
 use crate::reasons::holds_over;
 use crate::step::{Marks, Step, cut_by, undo};
 use club_keys::KeyEnds;
@@ -122,6 +124,17 @@ impl<'a> Trail<'a> {
             ≡ has_reason self.now.sheet self.now.season question.now self.now.zone reason }
     {
         holds_over(self.season, question, &self.cells, self.marks, reason)
+    }
+
+    /// Whether the near reason holds in the zone by the rival, by its number from 0: in a few walks
+    /// over the fixtures for each club concerned, and over at most 256 groups of rivals.
+    pub fn has_near(&self, question: &Question, rival: u8) -> bool
+        requires question { IsQuestionOf self.now.sheet question.now }
+        requires in_range { rival < length self.now.sheet.clubs }
+        ensures { result
+            ≡ has_near_reason self.now.sheet self.now.season question.now self.now.zone rival }
+    {
+        has_near_over(self.season, question, &self.cells, self.marks, rival)
     }
 }
 

@@ -13,7 +13,8 @@ use Rattle.clap.specs.Words.{App, Kinds, Row, Rule, Text, fault_of, first_of, ma
 use Rattle.clap.specs.Words.{new_rule, with_rule}
 use Rattle.command_words.specs.declared.command.Mode.{Mode}
 use Rattle.command_words.specs.declared.command.Mode.TheVariants.{Verdicts, Table, Scores, WhatIf}
-use Rattle.command_words.specs.declared.command.Mode.TheVariants.{Save, Resume, Check, Sample}
+use Rattle.command_words.specs.declared.command.Mode.TheVariants.{Save, Resume, Decide, Check}
+use Rattle.command_words.specs.declared.command.Mode.TheVariants.{Sample}
 use Rattle.command_words.specs.declared.command.Command.{Command}
 
 -- ---- the words that may stand
@@ -62,7 +63,9 @@ mode_named word proofs seed =
     else if bytes_eq word (codes "whatif") then Some WhatIf
     else if bytes_eq word (codes "save") then Some Save
     else if bytes_eq word (codes "resume") then Some (Resume proofs)
-    else if bytes_eq word (codes "check") then Some Check
+    else if bytes_eq word (codes "decide") then Some (Decide proofs)
+    else if bytes_eq word (codes "check") then Some (Check false)
+    else if bytes_eq word (codes "decide_check") then Some (Check true)
     else if bytes_eq word (codes "sample") then Some (Sample seed)
     else None
 

@@ -17,8 +17,10 @@ pub enum Mode {
     /// A saved text goes on: the asks of the feed before it are not answered, and each ask of the
     /// feed after it is answered as `Verdicts` does.
     Resume { proofs: bool },
-    /// A report of verdicts is checked.
-    Check,
+    /// At each ask, the verdicts by one thread, with wide reasons in their trees.
+    Decide { proofs: bool },
+    /// A report of `Verdicts` is checked, or a `wide` one, of `Decide`.
+    Check { wide: bool },
     /// The verdicts of the league that this number gives are counted. No input is read.
     Sample { seed: u64 },
 }

@@ -97,8 +97,12 @@ fn mode_named(word: &str, proofs: bool, seed: u64) -> Option<Mode>
         Some(Mode::Save)
     } else if word == "resume" {
         Some(Mode::Resume { proofs })
+    } else if word == "decide" {
+        Some(Mode::Decide { proofs })
     } else if word == "check" {
-        Some(Mode::Check)
+        Some(Mode::Check { wide: false })
+    } else if word == "decide_check" {
+        Some(Mode::Check { wide: true })
     } else if word == "sample" {
         Some(Mode::Sample { seed })
     } else {

@@ -54,11 +54,13 @@ use Rattle.what_if.specs.Steps.{about_of, forgotten, step_in, step_line}
 use Rattle.what_if.proofs.StepLemmas.{asks-unplayed, other-same, step-about}
 use Rattle.what_if.proofs.WhenLemmas.{when_there}
 use Rattle.command_words.specs.declared.command.Mode.TheVariants.{Verdicts, Table, Scores, WhatIf}
-use Rattle.command_words.specs.declared.command.Mode.TheVariants.{Save, Resume, Check, Sample}
+use Rattle.command_words.specs.declared.command.Mode.TheVariants.{Save, Resume, Decide, Check}
+use Rattle.command_words.specs.declared.command.Mode.TheVariants.{Sample}
 use Rattle.answer_rows.specs.AskedQuestions.{questions_of}
 use Rattle.pool_save.specs.declared.stop.SaveStop.{SaveStop}
 use Rattle.pool_save.specs.SavedReadings.{nothing_saved, saved_reading_of}
 use Rattle.futmax_main.proofs.SavedThereLemmas.{saved_there}
+use Rattle.futmax_main.proofs.DecidedThereLemmas.{decided_there}
 use Rattle.pool_save.proofs.UnspentItemLemmas.{unspent_items_there}
 use Rattle.pool_save.specs.SavedAnswers.{IsItemText}
 use Rattle.futmax_main.specs.declared.run_end.Cause.TheVariants as cause
@@ -206,7 +208,9 @@ answer-there WhatIf asked league results can =
 answer-there Save asked league results can = ([], refl)
 answer-there (Resume proofs) asked league results can =
     verdicts-there proofs asked.sheet asked.season asked.epoch asked.saved league results
-answer-there Check asked league results can = ([], refl)
+answer-there (Decide proofs) asked league results can =
+    decided_there proofs asked.sheet asked.season asked.epoch league results
+answer-there (Check wide) asked league results can = ([], refl)
 answer-there (Sample seed) asked league results can = ([], refl)
 
 -- ---- the asks of a course

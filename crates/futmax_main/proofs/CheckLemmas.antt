@@ -4,6 +4,7 @@ use Rattle.std.proofs.Common.{subst, sym}
 use Rattle.std.specs.Io.KnownBytes.{IsAtEnd}
 use Rattle.port_core.specs.Contents.{start, contents_of}
 use Rattle.port_core.specs.Readers.{LineReaderView, contents_to_come, TakesInput}
+use Rattle.cert_check.specs.declared.expected.ReportKind.{ReportKind}
 use Rattle.cert_check.specs.declared.outcome.CheckOutcome.{CheckOutcome}
 use Rattle.cert_check.specs.declared.outcome.CheckOutcome.TheVariants as outcome
 use Rattle.cert_check.specs.inside.InputCalls.{ChecksInput, LeavesCheck}
@@ -42,57 +43,58 @@ judged-end (outcome.LineTooLong number) new left is leaves = absurd is
 judged-end (outcome.InputTooLong number) new left is leaves = absurd is
 
 -- what an input comes to is written
-check-ends : (input : List ℕ) (left : Option (List ℕ)) (outcome : CheckOutcome)
-    (old now : Option (List ℕ)) (status : Status) → ComesTo input outcome
+check-ends : (kind : ReportKind) (input : List ℕ) (left : Option (List ℕ)) (outcome : CheckOutcome)
+    (old now : Option (List ℕ)) (status : Status) → ComesTo kind input outcome
     → (IsJudged (status_of_check outcome) → left ≡ Some []) → OutcomeEnds outcome old now status
-    → ServesCheck (Some input) left old now status
-check-ends input left outcome old now Done comes at_end ends = (
+    → ServesCheck kind (Some input) left old now status
+check-ends kind input left outcome old now Done comes at_end ends = (
   check_row outcome,
   ends.1,
   ((outcome, comes, ends.0, refl), at_end (subst IsJudged (sym ends.0) tt)),
 )
-check-ends input left outcome old now BadWords comes at_end ends =
+check-ends kind input left outcome old now BadWords comes at_end ends =
     (check_row outcome, ends.1, (outcome, comes, ends.0, refl))
-check-ends input left outcome old now BadSheet comes at_end ends =
+check-ends kind input left outcome old now BadSheet comes at_end ends =
     (check_row outcome, ends.1, (outcome, comes, ends.0, refl))
-check-ends input left outcome old now BadFeed comes at_end ends =
+check-ends kind input left outcome old now BadFeed comes at_end ends =
     (check_row outcome, ends.1, (outcome, comes, ends.0, refl))
-check-ends input left outcome old now ReadFault comes at_end ends =
+check-ends kind input left outcome old now ReadFault comes at_end ends =
     absurd (not_a_fault outcome ends.0)
-check-ends input left outcome old now WriteFault comes at_end ends =
+check-ends kind input left outcome old now WriteFault comes at_end ends =
     (ends.0, ends.2, (outcome, comes, ends.1))
-check-ends input left outcome old now OutOfMemory comes at_end ends =
+check-ends kind input left outcome old now OutOfMemory comes at_end ends =
     ([], ends ∙ append_known-nothing old, refl)
-check-ends input left outcome old now NotProved comes at_end ends = (
+check-ends kind input left outcome old now NotProved comes at_end ends = (
   check_row outcome,
   ends.1,
   ((outcome, comes, ends.0, refl), at_end (subst IsJudged (sym ends.0) tt)),
 )
-check-ends input left outcome old now TooLong comes at_end ends =
+check-ends kind input left outcome old now TooLong comes at_end ends =
     (check_row outcome, ends.1, (outcome, comes, ends.0, refl))
 
 -- a report that was judged
-pub check-serves : (reader new : LineReaderView) (input left : Option (List ℕ))
+pub check-serves : (kind : ReportKind) (reader new : LineReaderView) (input left : Option (List ℕ))
     (outcome : CheckOutcome)
     (old now : Option (List ℕ)) (status : Status)
     → reader ≡ record { held = []; text = []; position = start }
-    → ChecksInput (contents_to_come reader input) (contents_to_come new left) (Ok outcome)
+    → ChecksInput kind (contents_to_come reader input) (contents_to_come new left) (Ok outcome)
     → LeavesCheck new left (Ok outcome) → TakesInput reader new input left
-    → OutcomeEnds outcome old now status → ServesCheck input left old now status
-check-serves reader new None left outcome old now status fresh checks leaves takes ends = tt
-check-serves reader new (Some input) left outcome old now status fresh checks leaves takes ends =
-    check-ends input left outcome old now status
+    → OutcomeEnds outcome old now status → ServesCheck kind input left old now status
+check-serves kind reader new None left outcome old now status fresh checks leaves takes ends = tt
+check-serves kind reader new (Some input) left outcome old now status fresh checks leaves takes ends
+    =
+    check-ends kind input left outcome old now status
     (checks (contents_of input) (fresh-contents reader (Some input) fresh))
     (λ is. nothing_left input takes.0 left takes.1 (judged-end outcome new left is leaves)) ends
 
 -- a fault of the source, which leaves no text
-pub check-fails : (input left old : Option (List ℕ))
-    → ServesCheck input left old old ReadFault
-check-fails None left old = tt
-check-fails (Some input) left old = ([], append_known-nothing old, refl)
+pub check-fails : (kind : ReportKind) (input left old : Option (List ℕ))
+    → ServesCheck kind input left old old ReadFault
+check-fails kind None left old = tt
+check-fails kind (Some input) left old = ([], append_known-nothing old, refl)
 
 -- running out of memory, which leaves none
-pub check-starved : (input left old : Option (List ℕ))
-    → ServesCheck input left old old OutOfMemory
-check-starved None left old = tt
-check-starved (Some input) left old = ([], append_known-nothing old, refl)
+pub check-starved : (kind : ReportKind) (input left old : Option (List ℕ))
+    → ServesCheck kind input left old old OutOfMemory
+check-starved kind None left old = tt
+check-starved kind (Some input) left old = ([], append_known-nothing old, refl)

@@ -6,6 +6,7 @@ use Rattle.csv.specs.Machine.{next_record}
 use Rattle.csv.specs.Reading.{strip_bom}
 use Rattle.fixture_sheet.specs.declared.fault.SheetFault.TheVariants.{NoLeague}
 use Rattle.result_log.specs.declared.fault.FeedFault.TheVariants.{UnknownRecord}
+use Rattle.cert_check.specs.declared.expected.ReportKind.{ReportKind}
 use Rattle.cert_check.specs.declared.outcome.ReportFault.TheVariants.{Short}
 use Rattle.cert_check.specs.declared.outcome.CheckOutcome.TheVariants as outcome
 use Rattle.futmax_main.specs.declared.status.Status.TheVariants.{Done, BadSheet, BadFeed}
@@ -23,24 +24,26 @@ pair_sheet =
     ++ (ended_line (codes "club,B,2") ++ ended_line (codes "season")))
 
 -- without an ask, the empty report is accepted
-pub checked-done : IsChecked (pair_sheet ++ ended_line (codes "proofs")) Done
+pub checked-done : (kind : ReportKind) → IsChecked kind (pair_sheet ++ ended_line (codes "proofs"))
+    Done
 unfolding next_record strip_bom is_utf8 chars encode
-checked-done = (outcome.Accepted 0 0, refl, refl)
+checked-done kind = (outcome.Accepted 0 0, refl, refl)
 
 -- no report comes
-pub checked-not_proved : IsChecked pair_sheet NotProved
+pub checked-not_proved : (kind : ReportKind) → IsChecked kind pair_sheet NotProved
 unfolding next_record strip_bom is_utf8 chars encode
-checked-not_proved = (outcome.Refused 5 Short, refl, refl)
+checked-not_proved kind = (outcome.Refused 5 Short, refl, refl)
 
 -- no sheet stands in an empty input
-pub checked-bad_sheet : IsChecked [] BadSheet
-checked-bad_sheet = (outcome.BadSheet 1 NoLeague, refl, refl)
+pub checked-bad_sheet : (kind : ReportKind) → IsChecked kind [] BadSheet
+checked-bad_sheet kind = (outcome.BadSheet 1 NoLeague, refl, refl)
 
 -- a word that no feed has
-pub checked-bad_feed : IsChecked (pair_sheet ++ ended_line (codes "x")) BadFeed
+pub checked-bad_feed : (kind : ReportKind) → IsChecked kind (pair_sheet ++ ended_line (codes "x"))
+    BadFeed
 unfolding next_record strip_bom is_utf8 chars encode
-checked-bad_feed = (outcome.BadFeed 5 UnknownRecord, refl, refl)
+checked-bad_feed kind = (outcome.BadFeed 5 UnknownRecord, refl, refl)
 
 -- a line of 1025 bytes
-pub checked-too_long : IsChecked (replicate 1025 97) TooLong
-checked-too_long = (outcome.LineTooLong 1, refl, refl)
+pub checked-too_long : (kind : ReportKind) → IsChecked kind (replicate 1025 97) TooLong
+checked-too_long kind = (outcome.LineTooLong 1, refl, refl)

@@ -16,7 +16,8 @@ use Rattle.verdict_run.proofs.ShownLemmas.{works_new}
 use Rattle.pool_save.specs.SavedItems.{IsSavedOf}
 use Rattle.command_words.specs.declared.command.Mode.{Mode}
 use Rattle.command_words.specs.declared.command.Mode.TheVariants.{Verdicts, Table, Scores, WhatIf}
-use Rattle.command_words.specs.declared.command.Mode.TheVariants.{Save, Resume, Check, Sample}
+use Rattle.command_words.specs.declared.command.Mode.TheVariants.{Save, Resume, Decide, Check}
+use Rattle.command_words.specs.declared.command.Mode.TheVariants.{Sample}
 use Rattle.futmax_main.specs.declared.status.Status.TheVariants.{Done, OutOfMemory}
 use Rattle.futmax_main.specs.declared.run_end.RunEnd.TheVariants.{Complete}
 use Rattle.futmax_main.specs.Plays.{Played}
@@ -32,8 +33,9 @@ saved-new pool next live work = works_new pool next work (unworked_new pool live
 abbrev pub EndsPlain : Mode → Type 0
 EndsPlain mode =
     ((proofs : Bool) × (mode ≡ Verdicts proofs)) ⊎ ((mode ≡ Table) ⊎ ((mode ≡ Scores)
-    ⊎ ((mode ≡ WhatIf) ⊎ (((proofs : Bool) × (mode ≡ Resume proofs)) ⊎ ((mode ≡ Check)
-    ⊎ ((seed : ℕ) × (mode ≡ Sample seed)))))))
+    ⊎ ((mode ≡ WhatIf) ⊎ (((proofs : Bool) × (mode ≡ Resume proofs))
+    ⊎ (((proofs : Bool) × (mode ≡ Decide proofs)) ⊎ (((wide : Bool) × (mode ≡ Check wide))
+    ⊎ ((seed : ℕ) × (mode ≡ Sample seed))))))))
 
 closing-none : (mode : Mode) (pool : PoolView) → EndsPlain mode → closing_of mode pool ≡ None
 closing-none mode pool (inl is) = ap (λ m. closing_of m pool) is.1
@@ -41,8 +43,11 @@ closing-none mode pool (inr (inl is)) = ap (λ m. closing_of m pool) is
 closing-none mode pool (inr (inr (inl is))) = ap (λ m. closing_of m pool) is
 closing-none mode pool (inr (inr (inr (inl is)))) = ap (λ m. closing_of m pool) is
 closing-none mode pool (inr (inr (inr (inr (inl is))))) = ap (λ m. closing_of m pool) is.1
-closing-none mode pool (inr (inr (inr (inr (inr (inl is)))))) = ap (λ m. closing_of m pool) is
-closing-none mode pool (inr (inr (inr (inr (inr (inr is)))))) = ap (λ m. closing_of m pool) is.1
+closing-none mode pool (inr (inr (inr (inr (inr (inl is)))))) = ap (λ m. closing_of m pool) is.1
+closing-none mode pool (inr (inr (inr (inr (inr (inr (inl is))))))) =
+    ap (λ m. closing_of m pool) is.1
+closing-none mode pool (inr (inr (inr (inr (inr (inr (inr is))))))) =
+    ap (λ m. closing_of m pool) is.1
 
 pub plain-gives : (mode : Mode) (pool : PoolView) (old : Option (List ℕ)) → EndsPlain mode
     → EndGives (closing_of mode pool) old old Done

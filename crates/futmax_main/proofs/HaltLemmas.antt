@@ -31,7 +31,8 @@ use Rattle.what_if.specs.inside.StepCalls.{IsUnplayedFixture, live_step}
 use Rattle.what_if.proofs.StepLemmas.{step-about, step-may_come}
 use Rattle.command_words.specs.declared.command.Mode.{Mode}
 use Rattle.command_words.specs.declared.command.Mode.TheVariants.{Table, Scores, WhatIf, Save}
-use Rattle.command_words.specs.declared.command.Mode.TheVariants.{Resume, Check, Sample}
+use Rattle.command_words.specs.declared.command.Mode.TheVariants.{Resume, Decide, Check}
+use Rattle.command_words.specs.declared.command.Mode.TheVariants.{Sample}
 use Rattle.futmax_main.specs.declared.halting.Halt.{Halt}
 use Rattle.futmax_main.specs.Courses.{about_in}
 use Rattle.futmax_main.specs.inside.Halts.{IsAboutAt, about_at}
@@ -100,7 +101,8 @@ module _ (mode : Mode) (sheet : Sheet) (live : LiveReading) (log : List Event)
 abbrev pub IsPlain : Mode → Type 0
 IsPlain mode =
     (mode ≡ Table) ⊎ ((mode ≡ Scores) ⊎ ((mode ≡ Save) ⊎ (((proofs : Bool) × (mode ≡ Resume proofs))
-    ⊎ ((mode ≡ Check) ⊎ ((seed : ℕ) × (mode ≡ Sample seed))))))
+    ⊎ (((proofs : Bool) × (mode ≡ Decide proofs)) ⊎ (((wide : Bool) × (mode ≡ Check wide))
+    ⊎ ((seed : ℕ) × (mode ≡ Sample seed)))))))
 
 -- lines are entries there
 pub plain-reads : (mode : Mode) (sheet : Sheet) → IsPlain mode
@@ -109,8 +111,11 @@ plain-reads mode sheet (inl is) = reads-as mode Table sheet is
 plain-reads mode sheet (inr (inl is)) = reads-as mode Scores sheet is
 plain-reads mode sheet (inr (inr (inl is))) = reads-as mode Save sheet is
 plain-reads mode sheet (inr (inr (inr (inl is)))) = reads-as mode (Resume is.0) sheet is.1
-plain-reads mode sheet (inr (inr (inr (inr (inl is))))) = reads-as mode Check sheet is
-plain-reads mode sheet (inr (inr (inr (inr (inr is))))) = reads-as mode (Sample is.0) sheet is.1
+plain-reads mode sheet (inr (inr (inr (inr (inl is))))) = reads-as mode (Decide is.0) sheet is.1
+plain-reads mode sheet (inr (inr (inr (inr (inr (inl is)))))) =
+    reads-as mode (Check is.0) sheet is.1
+plain-reads mode sheet (inr (inr (inr (inr (inr (inr is)))))) =
+    reads-as mode (Sample is.0) sheet is.1
 
 -- and name no fixture to ask about
 pub plain-about_in : (mode : Mode) (content : List ℕ) → IsPlain mode → about_in mode content ≡ None
@@ -118,8 +123,11 @@ plain-about_in mode content (inl is) = ap (λ m. about_in m content) is
 plain-about_in mode content (inr (inl is)) = ap (λ m. about_in m content) is
 plain-about_in mode content (inr (inr (inl is))) = ap (λ m. about_in m content) is
 plain-about_in mode content (inr (inr (inr (inl is)))) = ap (λ m. about_in m content) is.1
-plain-about_in mode content (inr (inr (inr (inr (inl is))))) = ap (λ m. about_in m content) is
-plain-about_in mode content (inr (inr (inr (inr (inr is))))) = ap (λ m. about_in m content) is.1
+plain-about_in mode content (inr (inr (inr (inr (inl is))))) = ap (λ m. about_in m content) is.1
+plain-about_in mode content (inr (inr (inr (inr (inr (inl is)))))) =
+    ap (λ m. about_in m content) is.1
+plain-about_in mode content (inr (inr (inr (inr (inr (inr is)))))) =
+    ap (λ m. about_in m content) is.1
 
 -- a round that only reports does what the mode has to
 pub reported-in : (mode : Mode) (pool next : PoolView) → ReportsTo pool next

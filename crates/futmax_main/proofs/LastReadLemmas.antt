@@ -191,7 +191,7 @@ module _ {S : Type 0} (left : S → Option (List ℕ)) (reads : S → List ℕ �
   pub stops-unread : (mode : Option Mode) (source : S) (status : Status)
       → StopsAs left reads mode source source status
   stops-unread None source status = tt
-  stops-unread (Some Check) source status = tt
+  stops-unread (Some (Check wide)) source status = tt
   stops-unread (Some (Sample seed)) source status = tt
   stops-unread (Some mode) source status =
       stops-any mode fresh_reader source source status (inl (refl, refl))

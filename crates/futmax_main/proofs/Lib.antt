@@ -3,6 +3,7 @@ pub mod SheetLemmas
 pub mod StopLemmas
 pub mod LimitLemmas
 pub mod SavedThereLemmas
+pub mod DecidedThereLemmas
 pub mod AnsweredLemmas
 pub mod TextLemmas
 pub mod EndLemmas

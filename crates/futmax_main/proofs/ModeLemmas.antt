@@ -8,8 +8,10 @@ use Rattle.futmax_main.specs.declared.status.Status.TheVariants.{ReadFault, Writ
 use Rattle.futmax_main.specs.declared.status.Status.TheVariants.{NotProved, TooLong}
 use Rattle.command_words.specs.declared.command.Mode.{Mode}
 use Rattle.command_words.specs.declared.command.Mode.TheVariants.{Verdicts, Table, Scores, WhatIf}
-use Rattle.command_words.specs.declared.command.Mode.TheVariants.{Save, Resume, Check, Sample}
-use Rattle.futmax_main.specs.Checks.{ServesCheck}
+use Rattle.command_words.specs.declared.command.Mode.TheVariants.{Save, Resume, Decide, Check}
+use Rattle.command_words.specs.declared.command.Mode.TheVariants.{Sample}
+use Rattle.cert_check.specs.declared.expected.ReportKind.{ReportKind}
+use Rattle.futmax_main.specs.Checks.{ServesCheck, kind_of_check}
 use Rattle.futmax_main.specs.SampleRows.{ServesSample}
 use Rattle.futmax_main.specs.Top.{Serves}
 use Rattle.futmax_main.specs.LastReads.{StopsAs, StopsSession}
@@ -24,35 +26,40 @@ use Rattle.futmax_main.proofs.CheckLemmas.{check-starved}
 use Rattle.league_core.proofs.plain.Streams.{append_known-nothing}
 
 -- the status of a check in which no device failed
-check-settled : (input left old now : Option (List ℕ)) (status : Status)
-    → ServesCheck input left old now status → status ≢ BadWords → status ≢ ReadFault
-    → status ≢ WriteFault → IsCheckSettled input status
-check-settled None left old now Done serves words read write = inl
-    (pair_sheet ++ ended_line (codes "proofs"), checked-done)
-check-settled None left old now BadWords serves words read write = absurd (words refl)
-check-settled None left old now BadSheet serves words read write = inl ([], checked-bad_sheet)
-check-settled None left old now BadFeed serves words read write = inl
-    (pair_sheet ++ ended_line (codes "x"), checked-bad_feed)
-check-settled None left old now ReadFault serves words read write = absurd (read refl)
-check-settled None left old now WriteFault serves words read write = absurd (write refl)
-check-settled None left old now OutOfMemory serves words read write = inr refl
-check-settled None left old now NotProved serves words read write = inl
-    (pair_sheet, checked-not_proved)
-check-settled None left old now TooLong serves words read write = inl
-    (replicate 1025 97, checked-too_long)
-check-settled (Some input) left old now Done serves words read write =
+check-settled : (kind : ReportKind) (input left old now : Option (List ℕ)) (status : Status)
+    → ServesCheck kind input left old now status → status ≢ BadWords → status ≢ ReadFault
+    → status ≢ WriteFault → IsCheckSettled kind input status
+check-settled kind None left old now Done serves words read write = inl
+    (pair_sheet ++ ended_line (codes "proofs"), checked-done kind)
+check-settled kind None left old now BadWords serves words read write = absurd (words refl)
+check-settled kind None left old now BadSheet serves words read write = inl (
+  [],
+  checked-bad_sheet
+      kind,
+)
+check-settled kind None left old now BadFeed serves words read write = inl
+    (pair_sheet ++ ended_line (codes "x"), checked-bad_feed kind)
+check-settled kind None left old now ReadFault serves words read write = absurd (read refl)
+check-settled kind None left old now WriteFault serves words read write = absurd (write refl)
+check-settled kind None left old now OutOfMemory serves words read write = inr refl
+check-settled kind None left old now NotProved serves words read write = inl
+    (pair_sheet, checked-not_proved kind)
+check-settled kind None left old now TooLong serves words read write = inl
+    (replicate 1025 97, checked-too_long kind)
+check-settled kind (Some input) left old now Done serves words read write =
     let text = serves.2.0 in inl (text.0, text.1, text.2)
-check-settled (Some input) left old now BadWords serves words read write = absurd (words refl)
-check-settled (Some input) left old now BadSheet serves words read write =
+check-settled kind (Some input) left old now BadWords serves words read write = absurd (words refl)
+check-settled kind (Some input) left old now BadSheet serves words read write =
     let text = serves.2 in inl (text.0, text.1, text.2)
-check-settled (Some input) left old now BadFeed serves words read write =
+check-settled kind (Some input) left old now BadFeed serves words read write =
     let text = serves.2 in inl (text.0, text.1, text.2)
-check-settled (Some input) left old now ReadFault serves words read write = absurd (read refl)
-check-settled (Some input) left old now WriteFault serves words read write = absurd (write refl)
-check-settled (Some input) left old now OutOfMemory serves words read write = inr refl
-check-settled (Some input) left old now NotProved serves words read write =
+check-settled kind (Some input) left old now ReadFault serves words read write = absurd (read refl)
+check-settled kind (Some input) left old now WriteFault serves words read write = absurd (write
+    refl)
+check-settled kind (Some input) left old now OutOfMemory serves words read write = inr refl
+check-settled kind (Some input) left old now NotProved serves words read write =
     let text = serves.2.0 in inl (text.0, text.1, text.2)
-check-settled (Some input) left old now TooLong serves words read write =
+check-settled kind (Some input) left old now TooLong serves words read write =
     let text = serves.2 in inl (text.0, text.1, text.2)
 
 -- of a sample
@@ -74,8 +81,8 @@ pub mode-settled : (mode : Mode) (input left : Option (List ℕ)) (told : Bool)
     (old now : Option (List ℕ)) (status : Status)
     → ServesAs (Some mode) input left told old now status → MayEndAs mode status
     → status ≢ ReadFault → status ≢ WriteFault → IsSettledAs (Some mode) input status
-mode-settled Check input left told old now status serves may read write =
-    check-settled input left old now status serves may read write
+mode-settled (Check wide) input left told old now status serves may read write =
+    check-settled (kind_of_check wide) input left old now status serves may read write
 mode-settled (Sample seed) input left told old now status serves may read write =
     sample-settled seed old now input status serves write
 mode-settled mode input left told old now status serves may read write =
@@ -85,7 +92,8 @@ mode-settled mode input left told old now status serves may read write =
 pub serves_as-no_memory : (mode : Option Mode) (input left : Option (List ℕ)) (told : Bool)
     (old : Option (List ℕ)) → ServesAs mode input left told old old OutOfMemory
 serves_as-no_memory None input left told old = ([], append_known-nothing old, refl)
-serves_as-no_memory (Some Check) input left told old = check-starved input left old
+serves_as-no_memory (Some (Check wide)) input left told old =
+    check-starved (kind_of_check wide) input left old
 serves_as-no_memory (Some (Sample seed)) input left told old = refl
 serves_as-no_memory (Some mode) input left told old = serves-nothing mode input left told old
 
@@ -93,11 +101,17 @@ serves_as-no_memory (Some mode) input left told old = serves-nothing mode input 
 pub settled_as-no_memory : (mode : Option Mode) (input : Option (List ℕ))
     → IsSettledAs mode input OutOfMemory
 settled_as-no_memory None input = inr refl
-settled_as-no_memory (Some Check) None = inr refl
-settled_as-no_memory (Some Check) (Some input) = inr refl
+settled_as-no_memory (Some (Check wide)) None = inr refl
+settled_as-no_memory (Some (Check wide)) (Some input) = inr refl
 settled_as-no_memory (Some (Sample seed)) input = inr refl
 settled_as-no_memory (Some mode) None = inr refl
 settled_as-no_memory (Some mode) (Some input) = inr refl
+
+-- only a check says that a report is no proof
+pub only_checks : (mode : Mode) (status : Status) → MayEndAs mode status → status ≡ NotProved
+    → (wide : Bool) × (mode ≡ Check wide)
+only_checks (Check wide) status may is = (wide, refl)
+only_checks mode status may is = absurd (subst MayEndSession is may)
 
 -- ---- the modes that answer asks
 
@@ -105,23 +119,27 @@ abbrev pub AnswersAsks : Mode → Type 0
 AnswersAsks mode =
     ((proofs : Bool) × (mode ≡ Verdicts proofs))
     ⊎ ((mode ≡ Table) ⊎ ((mode ≡ Scores) ⊎ ((mode ≡ WhatIf)
-    ⊎ ((mode ≡ Save) ⊎ ((proofs : Bool) × (mode ≡ Resume proofs))))))
+    ⊎ ((mode ≡ Save) ⊎ (((proofs : Bool) × (mode ≡ Resume proofs))
+    ⊎ ((proofs : Bool) × (mode ≡ Decide proofs)))))))
 
 -- what holds of each of them
 asking : (P : Mode → Type 0) → ((proofs : Bool) → P (Verdicts proofs)) → P Table → P Scores
-    → P WhatIf → P Save → ((proofs : Bool) → P (Resume proofs)) → (mode : Mode) → AnswersAsks mode
-    → P mode
-asking P verdicts table scores what_if save resume mode (inl is) =
+    → P WhatIf → P Save → ((proofs : Bool) → P (Resume proofs))
+    → ((proofs : Bool) → P (Decide proofs)) → (mode : Mode) → AnswersAsks mode → P mode
+asking P verdicts table scores what_if save resume decide mode (inl is) =
     subst P (sym is.1) (verdicts is.0)
-asking P verdicts table scores what_if save resume mode (inr (inl is)) = subst P (sym is) table
-asking P verdicts table scores what_if save resume mode (inr (inr (inl is))) =
+asking P verdicts table scores what_if save resume decide mode (inr (inl is)) = subst P (sym is)
+    table
+asking P verdicts table scores what_if save resume decide mode (inr (inr (inl is))) =
     subst P (sym is) scores
-asking P verdicts table scores what_if save resume mode (inr (inr (inr (inl is)))) =
+asking P verdicts table scores what_if save resume decide mode (inr (inr (inr (inl is)))) =
     subst P (sym is) what_if
-asking P verdicts table scores what_if save resume mode (inr (inr (inr (inr (inl is))))) =
+asking P verdicts table scores what_if save resume decide mode (inr (inr (inr (inr (inl is))))) =
     subst P (sym is) save
-asking P verdicts table scores what_if save resume mode (inr (inr (inr (inr (inr is))))) =
-    subst P (sym is.1) (resume is.0)
+asking P verdicts table scores what_if save resume decide mode
+    (inr (inr (inr (inr (inr (inl is)))))) = subst P (sym is.1) (resume is.0)
+asking P verdicts table scores what_if save resume decide mode
+    (inr (inr (inr (inr (inr (inr is)))))) = subst P (sym is.1) (decide is.0)
 
 -- a session serves as its mode has to
 pub session-serves : (mode : Mode) (input left : Option (List ℕ)) (told : Bool)
@@ -133,7 +151,8 @@ session-serves mode input left told old now status is =
     λ m. Serves m input left told old now status
     → ServesAs (Some m) input left told old now status in
     asking P (λ proofs serves. serves) (λ serves. serves) (λ serves. serves)
-    (λ serves. serves) (λ serves. serves) (λ proofs serves. serves) mode is
+    (λ serves. serves) (λ serves. serves) (λ proofs serves. serves) (λ proofs serves. serves) mode
+    is
 
 -- and stops so
 pub session-stops : {S : Type 0} (left : S → Option (List ℕ)) (reads : S → List ℕ → S → Type 0)
@@ -145,7 +164,7 @@ session-stops left reads mode before after status is =
     λ m. StopsSession left reads m before after status
     → StopsAs left reads (Some m) before after status in
     asking P (λ proofs stops. stops) (λ stops. stops) (λ stops. stops) (λ stops. stops)
-    (λ stops. stops) (λ proofs stops. stops) mode is
+    (λ stops. stops) (λ proofs stops. stops) (λ proofs stops. stops) mode is
 
 -- and ends so
 pub session-ends : (mode : Mode) (status : Status) → AnswersAsks mode → MayEndSession status
@@ -153,11 +172,11 @@ pub session-ends : (mode : Mode) (status : Status) → AnswersAsks mode → MayE
 session-ends mode status is =
     let P : Mode → Type 0 = λ m. MayEndSession status → MayEndAs m status in
     asking P (λ proofs may. may) (λ may. may) (λ may. may) (λ may. may) (λ may. may)
-    (λ proofs may. may) mode is
+    (λ proofs may. may) (λ proofs may. may) mode is
 
 -- and reads its input
 pub session-reads : (mode : Mode) → AnswersAsks mode → ReadsNothing (Some mode) → ⊥
 session-reads mode is =
     let P : Mode → Type 0 = λ m. ReadsNothing (Some m) → ⊥ in
     asking P (λ proofs none. none) (λ none. none) (λ none. none) (λ none. none) (λ none. none)
-    (λ proofs none. none) mode is
+    (λ proofs none. none) (λ proofs none. none) mode is

@@ -3,7 +3,7 @@
 use Rattle.std.proofs.Common.{◌≡◌, ◌⊎◌, inl, inr, ℕ, true, false, not, ◌&&◌, List, [], ◌∷◌, ◌++◌}
 use Rattle.std.proofs.Common.{refl}
 use Rattle.std.specs.Prelude.{All}
-use Rattle.std.proofs.lemmas.Bool.{and_parts}
+use Rattle.std.proofs.lemmas.Bool.{and_parts, false≢true}
 use Rattle.std.proofs.lemmas.List.Elements.{All-head, All-tail}
 use Rattle.league_core.specs.declared.sheet.Sheet.{Sheet}
 use Rattle.league_core.specs.declared.question.Question.{Question}
@@ -13,7 +13,7 @@ use Rattle.league_core.specs.game.Questions.{IsQuestionOf}
 use Rattle.league_core.specs.game.Results.{Results, are_results}
 use Rattle.league_core.specs.game.Seasons.{IsLeague}
 use Rattle.league_core.specs.search.Trees.{Tree, open_leaf, lent_leaf, refuted_leaf, branch}
-use Rattle.league_core.specs.search.Trees.{NodesMeet}
+use Rattle.league_core.specs.search.Trees.{NodesMeet, is_refuted}
 use Rattle.league_core.specs.search.Zones.{is_of_rival, is_test_of, with_test}
 use Rattle.league_core.proofs.HalfLemmas.{root_has_finish}
 use Rattle.tree_reuse.specs.Asked.{IsAskedNode}
@@ -22,10 +22,7 @@ use Rattle.cert_text.specs.Ranges.{is_test_in_range}
 use Rattle.cert_text.specs.Rows.{text_of_row}
 use Rattle.cert_text.specs.TreeLines.{is_test_for}
 use Rattle.cert_text.proofs.ProperLemmas.{proper_tests}
-use Rattle.line_tokens.specs.declared.tree_line.TreeKind.TheVariants.{Refutation}
-use Rattle.cert_check.specs.ExpectedItems.{Basis}
-use Rattle.cert_check.specs.inside.Grammar.{NodeFits}
-use Rattle.cert_check.proofs.AnswerLemmas.{refutation_fits}
+use Rattle.cert_check.proofs.FitLemmas.{FitsAsLine, lines_fit}
 use Rattle.answer_rows.specs.Parts.{IsMadeOf}
 use Rattle.answer_rows.specs.AskedQuestions.{questions_of}
 use Rattle.answer_rows.proofs.AskedLemmas.{all_are_asked}
@@ -43,31 +40,32 @@ test_in_range sheet question test fits =
     (and_parts (is_test_in_range test && is_test_of sheet test)
     (not (is_of_rival question.club test)) fits).0).0
 
--- a refutation that may stand in a report, and whose tests may be asked, may be saved
-refutation_saved : (basis : Basis) (question : Question) (tree : Tree) (zone : List Literal)
-    → NodesMeet (IsAskedNode basis.sheet question) zone tree
-    → NodesMeet (NodeFits true basis Refutation question) zone tree
-    → NodesMeet (IsSavedNode basis.sheet question) zone tree
-refutation_saved basis question open_leaf zone asked fits = absurd fits
-refutation_saved basis question (lent_leaf number) zone asked fits = absurd fits
-refutation_saved basis question (refuted_leaf reason fresh) zone asked fits = (asked, fits.0)
-refutation_saved basis question (branch test fresh yes_half no_half) zone asked fits = (
-  (asked.0, test_in_range basis.sheet question test fits.0),
-  refutation_saved basis question yes_half (with_test zone test true) asked.1 fits.1,
-  refutation_saved basis question no_half (with_test zone test false) asked.2 fits.2,
-)
+-- a refutation whose lines say what may be said of the question, and whose tests may be asked, may
+-- be saved
+refutation_saved : (sheet : Sheet) (question : Question) (tree : Tree) (zone : List Literal)
+    → is_refuted tree ≡ true → NodesMeet (IsAskedNode sheet question) zone tree
+    → NodesMeet (FitsAsLine sheet question) zone tree
+    → NodesMeet (IsSavedNode sheet question) zone tree
+refutation_saved sheet question open_leaf zone refuted asked fits = absurd (false≢true refuted)
+refutation_saved sheet question (lent_leaf number) zone refuted asked fits =
+    absurd (false≢true refuted)
+refutation_saved sheet question (refuted_leaf reason fresh) zone refuted asked fits = (asked, fits)
+refutation_saved sheet question (branch test fresh yes_half no_half) zone refuted asked fits =
+    let both = and_parts (is_refuted yes_half) (is_refuted no_half) refuted in (
+      (asked.0, test_in_range sheet question test fits.0),
+      refutation_saved sheet question yes_half (with_test zone test true) both.0 asked.1 fits.1,
+      refutation_saved sheet question no_half (with_test zone test false) both.1 asked.2 fits.2,
+    )
 
 -- so may one of proper splits
 refuted_saved : (sheet : Sheet) (season : Results) (question : Question) (tree : Tree)
     → IsLeague sheet season → are_results season ≡ true
     → RefutesBelow sheet season question [] tree → IsSavedTree sheet question tree
 refuted_saved sheet season question tree league results below =
-    let basis : Basis = record { sheet = sheet; season = season; epoch = 0 } in
-    refutation_saved basis question tree []
+    refutation_saved sheet question tree [] below.refuted
     (proper_asked sheet season question [] tree below.proper)
-    (refutation_fits basis question tree [] refl
-    (proper_tests sheet season question tree [] league results below.proper) below.refuted
-    below.reasons)
+    (lines_fit sheet season question tree [] refl
+    (proper_tests sheet season question tree [] league results below.proper) below.reasons)
 
 -- ---- items
 

@@ -12,9 +12,11 @@ use Rattle.answer_rows.specs.ScoreTexts.{text_of_scores}
 use Rattle.qual_scores.specs.AllScores.{AreScoresOf}
 use Rattle.what_if.specs.WhenTexts.{IsWhenText}
 use Rattle.pool_save.specs.SavedAnswers.{IsItemText}
+use Rattle.decided_rows.specs.DecidedTexts.{IsDecidedText}
 use Rattle.command_words.specs.declared.command.Mode.{Mode}
 use Rattle.command_words.specs.declared.command.Mode.TheVariants.{Verdicts, Table, Scores, WhatIf}
-use Rattle.command_words.specs.declared.command.Mode.TheVariants.{Save, Resume, Check, Sample}
+use Rattle.command_words.specs.declared.command.Mode.TheVariants.{Save, Resume, Decide, Check}
+use Rattle.command_words.specs.declared.command.Mode.TheVariants.{Sample}
 use Rattle.futmax_main.specs.Plays.{Played}
 
 -- the verdicts of a season after so many events: the row of the ask, then an item for each
@@ -48,5 +50,7 @@ IsAnswerTo WhatIf played text =
 IsAnswerTo Save played text = text ≡ []
 IsAnswerTo (Resume proofs) played text =
     IsVerdictsText proofs played.sheet played.season played.epoch played.saved text
-IsAnswerTo Check played text = text ≡ []
+IsAnswerTo (Decide proofs) played text =
+    IsDecidedText proofs played.sheet played.season played.epoch text
+IsAnswerTo (Check wide) played text = text ≡ []
 IsAnswerTo (Sample seed) played text = text ≡ []

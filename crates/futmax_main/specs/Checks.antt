@@ -1,10 +1,13 @@
--- What the modes without asks write: `check` one row for all of an input, and `sample` one row,
+-- What the modes without asks write: a check one row for all of an input, and `sample` one row,
 -- which no input changes.
-use Rattle.std.specs.Prelude.{◌≡◌, ℕ, List, [], ◌∷◌, Option, Some, None, codes, decimal}
+use Rattle.std.specs.Prelude.{◌≡◌, ℕ, Bool, true, false, List, [], ◌∷◌, Option, Some, None, codes}
+use Rattle.std.specs.Prelude.{decimal}
 use Rattle.std.specs.Io.KnownBytes.{append_known}
 use Rattle.port_core.specs.Ports.{IsBytePrefix}
 use Rattle.port_core.specs.Contents.{contents_of}
 use Rattle.cert_text.specs.Rows.{text_of_row}
+use Rattle.cert_check.specs.declared.expected.ReportKind.{ReportKind}
+use Rattle.cert_check.specs.declared.expected.ReportKind.TheVariants.{Plain, Wide}
 use Rattle.cert_check.specs.declared.outcome.ReportFault.{ReportFault}
 use Rattle.cert_check.specs.declared.outcome.CheckOutcome.{CheckOutcome}
 use Rattle.cert_check.specs.declared.outcome.CheckOutcome.TheVariants.{Accepted, Refused, BadSheet}
@@ -49,32 +52,38 @@ status_of_check (BadFeed number fault) = status.BadFeed
 status_of_check (LineTooLong number) = status.TooLong
 status_of_check (InputTooLong number) = status.TooLong
 
--- an input comes to this
-abbrev pub ComesTo : List ℕ → CheckOutcome → Type 0
-ComesTo input outcome = outcome_of (contents_of input) ≡ Some outcome
+-- the reports that a check takes: those of the mode `decide` are wide
+abbrev pub kind_of_check : Bool → ReportKind
+kind_of_check true = Wide
+kind_of_check false = Plain
+
+-- an input with a report of this kind comes to this
+abbrev pub ComesTo : ReportKind → List ℕ → CheckOutcome → Type 0
+ComesTo kind input outcome = outcome_of kind (contents_of input) ≡ Some outcome
 
 -- the whole text of a check of this input, which has this status
-abbrev pub IsCheckText : List ℕ → Status → List ℕ → Type 0
-IsCheckText input status text =
-    (outcome : CheckOutcome) × ComesTo input outcome × (status_of_check outcome ≡ status)
+abbrev pub IsCheckText : ReportKind → List ℕ → Status → List ℕ → Type 0
+IsCheckText kind input status text =
+    (outcome : CheckOutcome) × ComesTo kind input outcome × (status_of_check outcome ≡ status)
     × (text ≡ check_row outcome)
 
 -- what was written if a check of this input ends with this status, by what the source has left:
 -- nothing if the source failed, or memory ran out; nothing is left where a report was judged
-abbrev pub CheckEnds : List ℕ → Option (List ℕ) → Status → List ℕ → Type 0
-CheckEnds input left status.Done text = IsCheckText input status.Done text × (left ≡ Some [])
-CheckEnds input left status.ReadFault text = text ≡ []
-CheckEnds input left status.WriteFault text =
-    (outcome : CheckOutcome) × ComesTo input outcome × IsBytePrefix text (check_row outcome)
-CheckEnds input left status.OutOfMemory text = text ≡ []
-CheckEnds input left status.NotProved text =
-    IsCheckText input status.NotProved text × (left ≡ Some [])
-CheckEnds input left status text = IsCheckText input status text
+abbrev pub CheckEnds : ReportKind → List ℕ → Option (List ℕ) → Status → List ℕ → Type 0
+CheckEnds kind input left status.Done text =
+    IsCheckText kind input status.Done text × (left ≡ Some [])
+CheckEnds kind input left status.ReadFault text = text ≡ []
+CheckEnds kind input left status.WriteFault text =
+    (outcome : CheckOutcome) × ComesTo kind input outcome × IsBytePrefix text (check_row outcome)
+CheckEnds kind input left status.OutOfMemory text = text ≡ []
+CheckEnds kind input left status.NotProved text =
+    IsCheckText kind input status.NotProved text × (left ≡ Some [])
+CheckEnds kind input left status text = IsCheckText kind input status text
 
 -- the sink's bytes before and after a check, by what the source had left and has left; nothing is
 -- said if the source exposes none
-abbrev pub ServesCheck : Option (List ℕ) → Option (List ℕ) → Option (List ℕ) → Option (List ℕ)
-    → Status → Type 0
-ServesCheck None left old new status = Unit {0}
-ServesCheck (Some input) left old new status =
-    (text : List ℕ) × (new ≡ append_known old text) × CheckEnds input left status text
+abbrev pub ServesCheck : ReportKind → Option (List ℕ) → Option (List ℕ) → Option (List ℕ)
+    → Option (List ℕ) → Status → Type 0
+ServesCheck kind None left old new status = Unit {0}
+ServesCheck kind (Some input) left old new status =
+    (text : List ℕ) × (new ≡ append_known old text) × CheckEnds kind input left status text

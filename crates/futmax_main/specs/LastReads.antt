@@ -74,7 +74,7 @@ StopsSession left reads mode before after _ =
 abbrev pub StopsAs : {S : Type 0} → (S → Option (List ℕ)) → (S → List ℕ → S → Type 0)
     → Option Mode → S → S → Status → Type 0
 StopsAs left reads None before after status = Unit {0}
-StopsAs left reads (Some Check) before after status = Unit {0}
+StopsAs left reads (Some (Check wide)) before after status = Unit {0}
 StopsAs left reads (Some (Sample seed)) before after status = Unit {0}
 StopsAs left reads (Some mode) before after status =
     StopsSession left reads mode before after status

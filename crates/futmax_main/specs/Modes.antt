@@ -3,11 +3,12 @@
 use Rattle.std.specs.Prelude.{◌≡◌, ℕ, Bool, ◌⊎◌, List, Option, Some, None}
 use Rattle.command_words.specs.declared.command.Mode.{Mode}
 use Rattle.command_words.specs.declared.command.Mode.TheVariants.{Check, Sample}
+use Rattle.cert_check.specs.declared.expected.ReportKind.{ReportKind}
 use Rattle.cert_check.specs.declared.outcome.CheckOutcome.{CheckOutcome}
 use Rattle.futmax_main.specs.declared.status.Status.{Status}
 use Rattle.futmax_main.specs.declared.status.Status.TheVariants.{Done, BadWords, OutOfMemory}
 use Rattle.futmax_main.specs.Top.{IsSettled, RefusesWords, Serves}
-use Rattle.futmax_main.specs.Checks.{ComesTo, ServesCheck, status_of_check}
+use Rattle.futmax_main.specs.Checks.{ComesTo, ServesCheck, kind_of_check, status_of_check}
 use Rattle.futmax_main.specs.SampleRows.{ServesSample}
 
 -- ---- what a run leaves
@@ -17,7 +18,8 @@ use Rattle.futmax_main.specs.SampleRows.{ServesSample}
 abbrev pub ServesAs : Option Mode → Option (List ℕ) → Option (List ℕ) → Bool → Option (List ℕ)
     → Option (List ℕ) → Status → Type 0
 ServesAs None input left ended old new status = RefusesWords old new status
-ServesAs (Some Check) input left ended old new status = ServesCheck input left old new status
+ServesAs (Some (Check wide)) input left ended old new status =
+    ServesCheck (kind_of_check wide) input left old new status
 ServesAs (Some (Sample seed)) input left ended old new status = ServesSample seed old new status
 ServesAs (Some mode) input left ended old new status = Serves mode input left ended old new status
 
@@ -29,21 +31,22 @@ ReadsNothing (Some mode) = ⊥
 
 -- ---- the status alone
 
--- a check may end so: an input comes to what has this status
-abbrev pub IsChecked : List ℕ → Status → Type 0
-IsChecked input status =
-    (outcome : CheckOutcome) × ComesTo input outcome × (status_of_check outcome ≡ status)
+-- a check may end so: an input with a report of this kind comes to what has this status
+abbrev pub IsChecked : ReportKind → List ℕ → Status → Type 0
+IsChecked kind input status =
+    (outcome : CheckOutcome) × ComesTo kind input outcome × (status_of_check outcome ≡ status)
 
 -- the status of a check in which no device failed: that of the input, or of some input if the
 -- source exposes none, or running out of memory
-abbrev pub IsCheckSettled : Option (List ℕ) → Status → Type 0
-IsCheckSettled None status =
-    ((input : List ℕ) × IsChecked input status) ⊎ (status ≡ OutOfMemory)
-IsCheckSettled (Some input) status = IsChecked input status ⊎ (status ≡ OutOfMemory)
+abbrev pub IsCheckSettled : ReportKind → Option (List ℕ) → Status → Type 0
+IsCheckSettled kind None status =
+    ((input : List ℕ) × IsChecked kind input status) ⊎ (status ≡ OutOfMemory)
+IsCheckSettled kind (Some input) status = IsChecked kind input status ⊎ (status ≡ OutOfMemory)
 
 -- the status of a run in which no device failed, by the mode of its words, if they fit one
 abbrev pub IsSettledAs : Option Mode → Option (List ℕ) → Status → Type 0
 IsSettledAs None input status = (status ≡ BadWords) ⊎ (status ≡ OutOfMemory)
-IsSettledAs (Some Check) input status = IsCheckSettled input status
+IsSettledAs (Some (Check wide)) input status =
+    IsCheckSettled (kind_of_check wide) input status
 IsSettledAs (Some (Sample seed)) input status = (status ≡ Done) ⊎ (status ≡ OutOfMemory)
 IsSettledAs (Some mode) input status = IsSettled mode input status

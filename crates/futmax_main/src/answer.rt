@@ -7,7 +7,7 @@ ghost use Rattle.verdict_run.specs.inside.Working.{AreSettled};
 ghost use Rattle.answer_rows.specs.inside.Outputs.{CountsPut};
 ghost use Rattle.league_core.specs.search.Trees.{Tree};
 ghost use Rattle.command_words.specs.declared.command.Mode.TheVariants.{Table, Scores, WhatIf};
-ghost use Rattle.command_words.specs.declared.command.Mode.TheVariants.{Resume};
+ghost use Rattle.command_words.specs.declared.command.Mode.TheVariants.{Decide, Resume};
 ghost use Rattle.futmax_main.specs.inside.Halts.{IsAskable};
 ghost use Rattle.futmax_main.specs.inside.Progress.{KeepsSaved};
 ghost use Rattle.futmax_main.specs.inside.Turns.{AnswersAsk, IsLive, IsReportedSame, IsUnworked};
@@ -16,6 +16,8 @@ ghost use Rattle.futmax_main.specs.inside.Turns.{IsWorkedOut, PutsAnswer, asked_
 use answer_rows::{OutputStop, put_scores, put_table, put_verdicts, questions, table_rows};
 use branch_pool::Pool;
 use command_words::Mode;
+use decide_run::decide;
+use decided_rows::put_decided;
 use league_core::{OutOfMemory, Question, Sheet};
 use port_core::Sink;
 use qual_scores::all_scores;
@@ -43,9 +45,12 @@ fn questions_for(alloc: Global, mode: Mode, sheet: &Sheet) -> Result<Vec<Questio
 {
     match mode {
         Mode::Verdicts { .. } | Mode::Save | Mode::Resume { .. } => questions(alloc, sheet),
-        Mode::Table | Mode::Scores | Mode::WhatIf | Mode::Check | Mode::Sample { .. } => {
-            Ok(Vec::new(alloc))
-        }
+        Mode::Table
+        | Mode::Scores
+        | Mode::WhatIf
+        | Mode::Decide { .. }
+        | Mode::Check { .. }
+        | Mode::Sample { .. } => Ok(Vec::new(alloc)),
     }
 }
 
@@ -90,7 +95,8 @@ fn work_out(alloc: Global, mode: Mode, pool: Pool) -> Result<Pool, OutOfMemory>
         | Mode::Scores
         | Mode::WhatIf
         | Mode::Save
-        | Mode::Check
+        | Mode::Decide { .. }
+        | Mode::Check { .. }
         | Mode::Sample { .. } => Ok(pool),
     }
 }
@@ -116,7 +122,8 @@ fn put_worked<K: Sink>(
         Mode::Table => put_order(alloc, pool, sink),
         Mode::Scores => put_numbers(alloc, pool, sink),
         Mode::WhatIf => put_outcomes(alloc, pool, about, sink),
-        Mode::Save | Mode::Check | Mode::Sample { .. } => Ok(()),
+        Mode::Decide { proofs } => put_decisions(alloc, proofs, pool, sink),
+        Mode::Save | Mode::Check { .. } | Mode::Sample { .. } => Ok(()),
     }
 }
 
@@ -169,6 +176,31 @@ fn put_numbers<K: Sink>(alloc: Global, pool: &Pool, sink: &mut K) -> Result<(), 
         return Err(OutputStop::OutOfMemory);
     };
     put_scores(alloc, pool.epoch(), pool.sheet(), found.as_slice(), sink)
+}
+
+fn put_decisions<K: Sink>(
+    alloc: Global,
+    proofs: bool,
+    pool: &Pool,
+    sink: &mut K,
+) -> Result<(), OutputStop>
+    requires { IsLive (Decide proofs) pool.now }
+    ensures answer { (saved : Option (List (Option Tree)))
+        → PutsAnswer (Decide proofs) pool.now None saved (K.holds sink.old) (K.holds sink.new)
+        result }
+    ensures counts { CountsPut (K.faults sink.old) (K.faults sink.new) result }
+{
+    let Ok(all) = decide(alloc, pool.sheet(), pool.season()) else {
+        return Err(OutputStop::OutOfMemory);
+    };
+    put_decided(
+        alloc,
+        proofs,
+        pool.sheet(),
+        pool.epoch(),
+        all.as_slice(),
+        sink,
+    )
 }
 
 // A match that is asked about has its outcomes written; an ask about none has nothing.

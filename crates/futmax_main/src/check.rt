@@ -1,8 +1,9 @@
-//! The mode `check`: a report is judged, and one row says how.
+//! The modes `check` and `decide_check`: a report is judged, and one row says how.
 
 ghost use Rattle.std.specs.Prelude.{◌≡◌, ◌≢◌, IfOk};
 ghost use Rattle.futmax_main.specs.Checks.{ServesCheck, check_row, refused_row, status_of_check};
 ghost use Rattle.futmax_main.specs.Checks.{accepted_row};
+ghost use Rattle.futmax_main.specs.Checks as checks;
 ghost use Rattle.futmax_main.specs.inside.Judging.{CountsJudged, OutcomeEnds};
 ghost use Rattle.futmax_main.specs.Top.{Counts};
 
@@ -10,7 +11,7 @@ use crate::rows::fault_row;
 use crate::run_end::{Cause, Fault};
 use crate::status::Status;
 use answer_rows::{number_field, put_row, text_field};
-use cert_check::{CheckFailure, CheckOutcome, ReportFault};
+use cert_check::{CheckFailure, CheckOutcome, ReportFault, ReportKind};
 use cert_text::write_row;
 use league_core::OutOfMemory;
 use par_check::check_input;
@@ -18,14 +19,26 @@ use port_core::{LineReader, Sink, Source};
 use std::alloc::Global;
 use std::thread::Threads;
 
-/// Reads the whole input, then judges the report in it, and writes one row.
+/// The reports that a check takes: those of the mode `decide` are wide.
+pub fn kind_of_check(wide: bool) -> ReportKind
+    ensures { result ≡ checks.kind_of_check wide }
+{
+    if wide {
+        ReportKind::Wide
+    } else {
+        ReportKind::Plain
+    }
+}
+
+/// Reads the whole input, then judges the report in it, of this kind, and writes one row.
 pub fn run_check<R: Threads + Sync, S: Source, K: Sink>(
     rt: &R,
     alloc: Global,
+    kind: ReportKind,
     source: &mut S,
     sink: &mut K,
 ) -> Status
-    ensures serves { ServesCheck (S.left source.old) (S.left source.new)
+    ensures serves { ServesCheck kind (S.left source.old) (S.left source.new)
         (K.holds sink.old) (K.holds sink.new) result }
     ensures counts { Counts (S.faults source.old) (S.faults source.new)
         (K.faults sink.old) (K.faults sink.new) result }
@@ -34,7 +47,7 @@ pub fn run_check<R: Threads + Sync, S: Source, K: Sink>(
     let Ok(mut reader) = LineReader::new(alloc) else {
         return Status::OutOfMemory;
     };
-    match check_input(rt, alloc, &mut reader, source) {
+    match check_input(rt, alloc, kind, &mut reader, source) {
         Ok(outcome) => put_outcome(alloc, outcome, sink),
         Err(CheckFailure::ReadFault) => Status::ReadFault,
         Err(CheckFailure::OutOfMemory) => Status::OutOfMemory,

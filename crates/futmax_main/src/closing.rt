@@ -31,7 +31,8 @@ pub fn close_session<K: Sink>(alloc: Global, mode: Mode, pool: Pool, sink: &mut 
         | Mode::Scores
         | Mode::WhatIf
         | Mode::Resume { .. }
-        | Mode::Check
+        | Mode::Decide { .. }
+        | Mode::Check { .. }
         | Mode::Sample { .. } => Status::Done,
     }
 }

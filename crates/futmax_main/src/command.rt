@@ -1,6 +1,6 @@
 //! A command, from its words to its status.
 
-ghost use Rattle.std.specs.Prelude.{◌≡◌, ◌≢◌, None, Some, map, string_bytes};
+ghost use Rattle.std.specs.Prelude.{◌≡◌, ◌≢◌, Bool, None, Some, map, string_bytes};
 ghost use Rattle.command_words.specs.declared.command.Mode.TheVariants.{Check};
 ghost use Rattle.command_words.specs.Commands.{mode_of};
 ghost use Rattle.futmax_main.specs.LastReads.{StopsAs};
@@ -8,7 +8,7 @@ ghost use Rattle.futmax_main.specs.Modes.{IsSettledAs, ReadsNothing, ServesAs};
 ghost use Rattle.futmax_main.specs.Top.{Counts, RefusesWords};
 ghost use Rattle.futmax_main.specs.inside.Turns.{CountsWords, MayEndAs};
 
-use crate::check::run_check;
+use crate::check::{kind_of_check, run_check};
 use crate::rows::usage_row;
 use crate::sample::run_sample;
 use crate::session::run_session;
@@ -50,7 +50,7 @@ pub fn futmax<R: Threads + Wait + Sync, S: Source + Send, K: Sink, G: Gate + Syn
     ensures settled { result ≢ Status.ReadFault → result ≢ Status.WriteFault
         → IsSettledAs (mode_of (map string_bytes words.items)) (S.left source.old) result }
     ensures unproved { result ≡ Status.NotProved
-        → mode_of (map string_bytes words.items) ≡ Some Check }
+        → (wide : Bool) × (mode_of (map string_bytes words.items) ≡ Some (Check wide)) }
     // Words are refused only if they fit no mode, and then nothing is read, nor for a sample.
     ensures words_cause { result ≡ Status.BadWords
         → mode_of (map string_bytes words.items) ≡ None }
@@ -93,8 +93,11 @@ fn run_mode<R: Threads + Wait + Sync, S: Source + Send, K: Sink, G: Gate + Sync>
         | Mode::Scores
         | Mode::WhatIf
         | Mode::Save
-        | Mode::Resume { .. } => run_session(setup, source, sink),
-        Mode::Check => run_check(setup.rt, setup.alloc, source, sink),
+        | Mode::Resume { .. }
+        | Mode::Decide { .. } => run_session(setup, source, sink),
+        Mode::Check { wide } => {
+            run_check(setup.rt, setup.alloc, kind_of_check(wide), source, sink)
+        }
         Mode::Sample { seed } => run_sample(setup.alloc, seed, sink),
     }
 }

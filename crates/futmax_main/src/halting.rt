@@ -63,7 +63,8 @@ pub fn next_round<R: Threads + Wait + Sync, S: Source + Send, G: Gate + Sync>(
         | Mode::Scores
         | Mode::Save
         | Mode::Resume { .. }
-        | Mode::Check
+        | Mode::Decide { .. }
+        | Mode::Check { .. }
         | Mode::Sample { .. } => Ok(halt_of(read_round(alloc, pool, reader, source)?)),
     }
 }

@@ -165,7 +165,8 @@ fn awaits_saved(mode: Mode) -> bool
         | Mode::Scores
         | Mode::WhatIf
         | Mode::Save
-        | Mode::Check
+        | Mode::Decide { .. }
+        | Mode::Check { .. }
         | Mode::Sample { .. } => false,
     }
 }

@@ -9,8 +9,12 @@ use Rattle.league_core.specs.declared.question.Claim.TheVariants.{Inside, Outsid
 use Rattle.league_core.specs.declared.question.Question.{Question}
 use Rattle.league_core.specs.declared.zone.Reason.{Reason}
 use Rattle.league_core.specs.declared.zone.Reason.TheVariants.{Count, Window, Low, High, Tie}
+use Rattle.league_core.specs.declared.zone.Test.TheVariants.{Rival}
 use Rattle.league_core.specs.game.ClubSets.{clubs_in}
 use Rattle.league_core.specs.search.Reasons.{has_member}
+use Rattle.cert_text.specs.TreeLines.{is_test_for}
+use Rattle.wide_lines.specs.declared.wide_reason.WideReason.{WideReason}
+use Rattle.wide_lines.specs.declared.wide_reason.WideReason.TheVariants as wide
 
 -- both claims are the same
 abbrev pub same_claim : Claim → Claim → Bool
@@ -36,3 +40,8 @@ is_reason_for sheet question Window = true
 is_reason_for sheet question (Low set) = is_set_for sheet question (clubs_in set)
 is_reason_for sheet question (High set) = is_set_for sheet question (clubs_in set)
 is_reason_for sheet question Tie = true
+
+-- a wide one: a near reason is by a rival of whom a test of the tree may be
+abbrev pub is_wide_reason_for : Sheet → Question → WideReason → Bool
+is_wide_reason_for sheet question (wide.Plain reason) = is_reason_for sheet question reason
+is_wide_reason_for sheet question (wide.Near rival) = is_test_for sheet question (Rival rival)

@@ -9,6 +9,6 @@ mod ranges;
 mod token;
 mod tree_line;
 
-pub use ranges::{is_reason_for, is_test_for};
+pub use ranges::{is_reason_for, is_test_for, is_wide_reason_for};
 pub use token::{Token, counts, read_token};
-pub use tree_line::{TreeKind, node_of};
+pub use tree_line::{TreeKind, node_of, wide_node_of};

@@ -10,6 +10,7 @@ ghost use Rattle.line_tokens.specs.LineRanges as ranges;
 use cert_text::is_test_below;
 use league_core::limits::{MOST_CLUBS, MOST_FIXTURES};
 use league_core::{ClubSet, Question, Reason, Sheet, Test};
+use wide_lines::WideReason;
 
 /// A tree for the question may split by this test.
 pub fn is_test_for(sheet: &Sheet, question: &Question, test: Test) -> bool
@@ -53,6 +54,18 @@ pub fn is_reason_for(sheet: &Sheet, question: &Question, reason: Reason) -> bool
         Reason::Low(set) => is_set_for(sheet, question, set),
         Reason::High(set) => is_set_for(sheet, question, set),
         Reason::Tie => true,
+    }
+}
+
+/// A leaf of a wide tree for the question may have this reason.
+pub fn is_wide_reason_for(sheet: &Sheet, question: &Question, reason: WideReason) -> bool
+    requires limits { IsWithinLimits sheet.now }
+    requires in_range { question.now.club < length sheet.now.clubs }
+    ensures { result ≡ ranges.is_wide_reason_for sheet.now question.now reason }
+{
+    match reason {
+        WideReason::Plain(reason) => is_reason_for(sheet, question, reason),
+        WideReason::Near(club) => is_test_for(sheet, question, Test::Rival { club }),
     }
 }
 

@@ -2,13 +2,15 @@
 
 ghost use Rattle.std.specs.Prelude.{◌≡◌, IfOk};
 ghost use Rattle.line_tokens.specs.Tokens.{token_of, token_of_row, begins_proof, token_of_line};
+ghost use Rattle.line_tokens.specs.Tokens.{token_of_wide};
 ghost use Rattle.line_tokens.specs.Tokens as tokens;
-ghost use Rattle.cert_text.specs.Forms.{line_in};
+ghost use Rattle.wide_lines.specs.WideTexts.{wide_line_in};
 
-use cert_text::{LineStop, ProofLine, read_line};
+use cert_text::{LineStop, ProofLine};
 use fixture_sheet::{Fields, FieldsStop, fields_of};
 use league_core::OutOfMemory;
 use std::alloc::Global;
+use wide_lines::{WideLine, read_wide_line};
 
 /// A line of a report, read alone.
 #[derive(Drop)]
@@ -19,6 +21,8 @@ pub enum Token {
     Row(Fields),
     /// A proof line.
     Proof(ProofLine),
+    /// A leaf that is refuted by the near reason of a rival, from 0, marked new or not.
+    Near { rival: u8, fresh: bool },
     /// Neither: no place of a report has such a line.
     Unknown,
 }
@@ -44,12 +48,25 @@ fn begins_proof(text: &[u8]) -> bool
 }
 
 fn proof_token(alloc: Global, text: &[u8]) -> Result<Token, OutOfMemory>
-    ensures { IfOk result (λ token. token ≡ token_of_line (line_in text.now)) }
+    ensures { IfOk result (λ token. token ≡ token_of_line (wide_line_in text.now)) }
 {
-    match read_line(alloc, text) {
-        Ok(line) => Ok(Token::Proof(line)),
+    match read_wide_line(alloc, text) {
+        Ok(line) => Ok(wide_token(line)),
         Err(LineStop::NoForm) => Ok(Token::Unknown),
         Err(LineStop::OutOfMemory) => Err(OutOfMemory),
+    }
+}
+
+fn wide_token(line: WideLine) -> Token
+    ensures { result ≡ token_of_wide line }
+{
+    match line {
+        WideLine::Plain(line) => Token::Proof(line),
+        WideLine::Near(rival) => Token::Near {
+            rival,
+            fresh: false,
+        },
+        WideLine::NewNear(rival) => Token::Near { rival, fresh: true },
     }
 }
 

@@ -1,12 +1,13 @@
 //! Which node of a tree a line stands for.
 
 ghost use Rattle.std.specs.Prelude.{◌≡◌};
-ghost use Rattle.line_tokens.specs.TreeNodes.{node_in};
+ghost use Rattle.line_tokens.specs.TreeNodes.{node_in, near_node_in, wide_node_in};
 ghost use Rattle.line_tokens.specs.inside.NodeCalls.{node_of_token};
 
 use crate::token::Token;
 use cert_text::ProofLine;
 use league_core::TreeNode;
+use wide_lines::{WideNode, WideReason, widened};
 
 /// What a tree in a text stands for.
 #[derive(Clone, Copy)]
@@ -66,5 +67,26 @@ fn spent_node(line: &ProofLine) -> Option<TreeNode>
         }),
         ProofLine::OpenLeaf => Some(TreeNode::Open),
         _ => None,
+    }
+}
+
+/// The node of a wide tree of this kind that a line stands for.
+pub fn wide_node_of(kind: TreeKind, token: &Token) -> Option<WideNode>
+    ensures { result ≡ wide_node_in kind token.now }
+{
+    match token {
+        Token::Near { rival, fresh } => near_node(kind, *rival, *fresh),
+        Token::Proof(_) => Some(widened(node_of(kind, token)?)),
+        _ => None,
+    }
+}
+
+fn near_node(kind: TreeKind, rival: u8, fresh: bool) -> Option<WideNode>
+    ensures { result ≡ near_node_in kind rival fresh }
+{
+    let reason = WideReason::Near(rival);
+    match kind {
+        TreeKind::Refutation if fresh => None,
+        _ => Some(WideNode::Refuted { reason, fresh }),
     }
 }

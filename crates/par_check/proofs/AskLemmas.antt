@@ -57,7 +57,7 @@ pub ask_first : (sheet : Sheet) (asks : Asks) (ask : ℕ) → ask < length asks.
     ≡ basis_at sheet asks ask ∷ drop (ask + 1) (bases_in sheet asks)
 ask_first sheet asks ask within =
     let basis = λ (epoch : ℕ).
-    basis_of sheet (season_after sheet (take epoch asks.log.items)) epoch in
+    basis_of asks.kind sheet (season_after sheet (take epoch asks.log.items)) epoch in
     drop_more (bases_in sheet asks) ask (basis_at sheet asks ask)
     (omega (arith, within, length-map asks.epochs.items basis))
     ∙ ap (λ it. it ∷ drop (ask + 1) (bases_in sheet asks))
@@ -90,13 +90,14 @@ started sheet asks lines ask at count old within cut =
 -- a report on the season of an ask
 pub report_is : (sheet : Sheet) (asks : Asks) (lines : List NumberedLine) (ask epoch : ℕ)
     (season : Results) (judged : ReportView)
-    → judged ≡ record { basis = basis_of sheet season epoch; tokens = tokens_of lines }
+    → judged ≡ record { basis = basis_of asks.kind sheet season epoch; tokens = tokens_of lines }
     → season ≡ season_at sheet asks ask → epoch ≡ get_or asks.epochs.items ask 0
     → judged ≡ report_of_ask sheet asks lines ask
 report_is sheet asks lines ask epoch season judged is at number =
-    is ∙ ap (λ it. record { basis = basis_of sheet it epoch; tokens = tokens_of lines }) at
+    is ∙ ap (λ it. record { basis = basis_of asks.kind sheet it epoch; tokens = tokens_of lines })
+    at
     ∙ ap (λ it. record {
-      basis = basis_of sheet (season_at sheet asks ask) it;
+      basis = basis_of asks.kind sheet (season_at sheet asks ask) it;
       tokens = tokens_of lines;
     }) number
 
@@ -165,7 +166,7 @@ pub asks_end : (sheet : Sheet) (asks : Asks) (lines : List NumberedLine) (ask : 
     → IsCutRead sheet asks lines items (Ok found)
 asks_end sheet asks lines ask items found all few room cut within =
     let basis = λ (epoch : ℕ).
-    basis_of sheet (season_after sheet (take epoch asks.log.items)) epoch in
+    basis_of asks.kind sheet (season_after sheet (take epoch asks.log.items)) epoch in
     let none : drop ask (bases_in sheet asks) ≡ [] = drop_of_length-le (bases_in sheet asks)
     (omega (arith, all, length-map asks.epochs.items basis)) in
     let whole = grammar_cut sheet asks lines in

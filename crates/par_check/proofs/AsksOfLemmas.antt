@@ -16,21 +16,23 @@ use Rattle.league_core.specs.game.Sheets.{IsWithinLimits}
 use Rattle.league_core.proofs.TableLemmas.{season_after-push}
 use Rattle.result_log.specs.declared.entry.Entry.{Entry}
 use Rattle.result_log.specs.declared.entry.Entry.TheVariants.{Change, Ask, Proofs, End}
+use Rattle.cert_check.specs.declared.expected.ReportKind.{ReportKind}
 use Rattle.cert_check.specs.Machine.{basis_of}
 use Rattle.par_check.specs.declared.asks.Asks.{Asks}
 use Rattle.par_check.specs.Cuts.{AreAsks, bases_of}
 use Rattle.par_check.specs.FeedAsks.{bases_from, AreAsksSoFar, TakesEntry}
 
 -- epochs look at the events before them alone
-bases_kept : (sheet : Sheet) (log more : List Event) (epochs : List ℕ)
+bases_kept : (kind : ReportKind) (sheet : Sheet) (log more : List Event) (epochs : List ℕ)
     → ((k : ℕ) → k < length epochs → get_or epochs k 0 ≤ length log)
-    → bases_of sheet (log ++ more) epochs ≡ bases_of sheet log epochs
-bases_kept sheet log more [] far = refl
-bases_kept sheet log more (epoch ∷ epochs) far =
-    ap (λ it. basis_of sheet (season_after sheet it) epoch ∷ bases_of sheet (log ++ more) epochs)
+    → bases_of kind sheet (log ++ more) epochs ≡ bases_of kind sheet log epochs
+bases_kept kind sheet log more [] far = refl
+bases_kept kind sheet log more (epoch ∷ epochs) far =
+    ap (λ it. basis_of kind sheet (season_after sheet it) epoch ∷ bases_of kind sheet (log ++ more)
+    epochs)
     (take-append-le epoch log more (far 0 (omega arith)))
-    ∙ ap (λ it. basis_of sheet (season_after sheet (take epoch log)) epoch ∷ it)
-    (bases_kept sheet log more epochs (λ k within. far (suc k) (omega (arith, within))))
+    ∙ ap (λ it. basis_of kind sheet (season_after sheet (take epoch log)) epoch ∷ it)
+    (bases_kept kind sheet log more epochs (λ k within. far (suc k) (omega (arith, within))))
 
 pub asks_none : (sheet : Sheet) (entries : List Entry) (log : List Event) (epochs : List ℕ)
     → log ≡ [] → epochs ≡ [] → AreAsksSoFar sheet entries 0 log epochs
@@ -41,7 +43,7 @@ asks_none sheet entries log epochs no_log no_epochs =
       in_order = λ k within. absurd (omega (arith, within));
       log_count = omega arith;
       ask_count = omega arith;
-      bases = refl;
+      bases = λ kind. refl;
     } in
     let P : List Event → Type 0 = λ it. AreAsksSoFar sheet entries 0 it [] in
     let Q : List ℕ → Type 0 = λ it. AreAsksSoFar sheet entries 0 log it in
@@ -63,15 +65,16 @@ event_on sheet entries at log new epochs event are next one is =
       in_order = are.in_order;
       log_count = omega (arith, are.log_count, long);
       ask_count = omega (arith, are.ask_count);
-      bases = ap (λ it. it ++ bases_from sheet (season_after sheet (log ++ event ∷ []))
+      bases = λ kind. ap (λ it. it ++ bases_from kind sheet (season_after sheet (log ++ event ∷ []))
           (length (log ++ event ∷ [])) rest)
-          (bases_kept sheet log (event ∷ []) epochs are.far)
-          ∙ ap (λ it. bases_of sheet log epochs ++ bases_from sheet it
+          (bases_kept kind sheet log (event ∷ []) epochs are.far)
+          ∙ ap (λ it. bases_of kind sheet log epochs ++ bases_from kind sheet it
           (length (log ++ event ∷ [])) rest) (season_after-push sheet log event)
-          ∙ ap (λ it. bases_of sheet log epochs ++ bases_from sheet
+          ∙ ap (λ it. bases_of kind sheet log epochs ++ bases_from kind sheet
           (event_applied (season_after sheet log) event) it rest) long
-          ∙ ap (λ it. bases_of sheet log epochs ++ bases_from sheet (season_after sheet log)
-          (length log) it) (sym next) ∙ are.bases;
+          ∙ ap (λ it. bases_of kind sheet log epochs ++ bases_from kind sheet (season_after sheet
+          log)
+          (length log) it) (sym next) ∙ are.bases kind;
     } in
     let P : List Event → Type 0 = λ it. AreAsksSoFar sheet entries (at + 1) it epochs in
     subst P (sym is) made
@@ -133,23 +136,25 @@ pub ask_on : (sheet : Sheet) (entries : List Entry) (at : ℕ) (log : List Event
 ask_on sheet entries at log epochs new are next is =
     let epoch = length log in
     let rest = drop (at + 1) entries in
-    let basis = λ (it : ℕ). basis_of sheet (season_after sheet (take it log)) it in
-    let whole : basis epoch ≡ basis_of sheet (season_after sheet log) epoch =
-    ap (λ it. basis_of sheet (season_after sheet it) epoch) (take_all epoch log (omega arith)) in
+    let basis = λ (kind : ReportKind) (it : ℕ).
+    basis_of kind sheet (season_after sheet (take it log)) it in
+    let whole = λ (kind : ReportKind). ap (λ it. basis_of kind sheet (season_after sheet it) epoch)
+    (take_all epoch log (omega arith)) in
     let made : AreAsksSoFar sheet entries (at + 1) log (epochs ++ epoch ∷ []) = record {
       events = are.events;
       far = λ k within. epoch_there epochs epoch epoch k within are.far (omega arith);
       in_order = λ k within. order_there epochs epoch k within are.far are.in_order;
       log_count = omega (arith, are.log_count);
       ask_count = omega (arith, are.ask_count, length-append epochs (epoch ∷ []));
-      bases = ap (λ it. it ++ bases_from sheet (season_after sheet log) epoch rest)
-          (map-append basis epochs (epoch ∷ []))
-          ∙ append_assoc (bases_of sheet log epochs) (basis epoch ∷ [])
-          (bases_from sheet (season_after sheet log) epoch rest)
-          ∙ ap (λ it. bases_of sheet log epochs
-          ++ it ∷ bases_from sheet (season_after sheet log) epoch rest) whole
-          ∙ ap (λ it. bases_of sheet log epochs ++ bases_from sheet (season_after sheet log)
-          epoch it) (sym next) ∙ are.bases;
+      bases = λ kind. ap (λ it. it ++ bases_from kind sheet (season_after sheet log) epoch rest)
+          (map-append (basis kind) epochs (epoch ∷ []))
+          ∙ append_assoc (bases_of kind sheet log epochs) (basis kind epoch ∷ [])
+          (bases_from kind sheet (season_after sheet log) epoch rest)
+          ∙ ap (λ it. bases_of kind sheet log epochs
+          ++ it ∷ bases_from kind sheet (season_after sheet log) epoch rest) (whole kind)
+          ∙ ap (λ it. bases_of kind sheet log epochs ++ bases_from kind sheet (season_after sheet
+          log)
+          epoch it) (sym next) ∙ are.bases kind;
     } in
     let P : List ℕ → Type 0 = λ it. AreAsksSoFar sheet entries (at + 1) log it in
     subst P (sym is) made
@@ -157,8 +162,9 @@ ask_on sheet entries at log epochs new are next is =
 -- an entry that is neither
 pub other_on : (sheet : Sheet) (entries : List Entry) (at : ℕ) (log : List Event)
     (epochs : List ℕ) → AreAsksSoFar sheet entries at log epochs
-    → bases_from sheet (season_after sheet log) (length log) (drop at entries)
-    ≡ bases_from sheet (season_after sheet log) (length log) (drop (at + 1) entries)
+    → ((kind : ReportKind)
+    → bases_from kind sheet (season_after sheet log) (length log) (drop at entries)
+    ≡ bases_from kind sheet (season_after sheet log) (length log) (drop (at + 1) entries))
     → AreAsksSoFar sheet entries (at + 1) log epochs
 other_on sheet entries at log epochs are same = record {
   events = are.events;
@@ -166,7 +172,8 @@ other_on sheet entries at log epochs are same = record {
   in_order = are.in_order;
   log_count = omega (arith, are.log_count);
   ask_count = omega (arith, are.ask_count);
-  bases = ap (λ it. bases_of sheet log epochs ++ it) (sym same) ∙ are.bases;
+  bases = λ kind. ap (λ it. bases_of kind sheet log epochs ++ it) (sym (same kind)) ∙ are.bases
+  kind;
 }
 
 -- all entries are gone over
@@ -181,14 +188,15 @@ asks_are sheet entries at asks limits few are = record {
   few = omega (arith, few, are.ask_count);
 }
 
-pub asks_whole : (sheet : Sheet) (entries : List Entry) (at : ℕ) (log : List Event)
+pub asks_whole : (kind : ReportKind) (sheet : Sheet) (entries : List Entry) (at : ℕ) (log : List
+    Event)
     (epochs : List ℕ) → length entries ≤ at → AreAsksSoFar sheet entries at log epochs
-    → bases_of sheet log epochs ≡ bases_from sheet (season_after sheet []) 0 entries
-asks_whole sheet entries at log epochs all are =
-    sym (append-nil (bases_of sheet log epochs))
-    ∙ ap (λ it. bases_of sheet log epochs
-    ++ bases_from sheet (season_after sheet log) (length log) it)
-    (sym (drop_of_length-le entries all)) ∙ are.bases
+    → bases_of kind sheet log epochs ≡ bases_from kind sheet (season_after sheet []) 0 entries
+asks_whole kind sheet entries at log epochs all are =
+    sym (append-nil (bases_of kind sheet log epochs))
+    ∙ ap (λ it. bases_of kind sheet log epochs
+    ++ bases_from kind sheet (season_after sheet log) (length log) it)
+    (sym (drop_of_length-le entries all)) ∙ are.bases kind
 
 -- what an entry adds
 pub event_taken : (event : Event) (log new : List Event) (epochs : List ℕ)
@@ -204,9 +212,9 @@ ask_taken log epochs new is sheet entries at are next one =
 pub proofs_taken : (log : List Event) (epochs : List ℕ) → TakesEntry Proofs log epochs log epochs
 proofs_taken log epochs sheet entries at are next one =
     other_on sheet entries at log epochs are
-    (ap (bases_from sheet (season_after sheet log) (length log)) next)
+    (λ kind. ap (bases_from kind sheet (season_after sheet log) (length log)) next)
 
 pub end_taken : (log : List Event) (epochs : List ℕ) → TakesEntry End log epochs log epochs
 end_taken log epochs sheet entries at are next one =
     other_on sheet entries at log epochs are
-    (ap (bases_from sheet (season_after sheet log) (length log)) next)
+    (λ kind. ap (bases_from kind sheet (season_after sheet log) (length log)) next)

@@ -9,8 +9,8 @@ use Rattle.league_core.specs.declared.sheet.Sheet.{Sheet}
 use Rattle.league_core.specs.declared.question.Question.{Question}
 use Rattle.league_core.specs.declared.question.Claim.TheVariants.{Inside}
 use Rattle.league_core.specs.declared.season.Score.{Score}
-use Rattle.league_core.specs.declared.tree.TreeNode.{TreeNode}
-use Rattle.league_core.specs.declared.tree.TreeNode.TheVariants as node
+use Rattle.wide_lines.specs.declared.wide_node.WideNode.{WideNode}
+use Rattle.wide_lines.specs.declared.wide_node.WideNode.TheVariants as node
 use Rattle.league_core.specs.declared.zone.Literal.{Literal}
 use Rattle.league_core.specs.game.Results.{Results}
 use Rattle.league_core.specs.game.Questions.{holds_at}
@@ -26,7 +26,7 @@ use Rattle.cert_check.specs.declared.expected.RowWord.TheVariants.{Unsettled}
 use Rattle.cert_check.specs.declared.expected.Tally.{Tally}
 use Rattle.line_tokens.specs.declared.tree_line.TreeKind.{TreeKind}
 use Rattle.line_tokens.specs.declared.token.Token.{Token}
-use Rattle.line_tokens.specs.declared.token.Token.TheVariants.{Blank, Row, Proof, Unknown}
+use Rattle.line_tokens.specs.declared.token.Token.TheVariants.{Blank, Row, Proof, Near, Unknown}
 use Rattle.cert_check.specs.ExpectedItems.{Basis, Expected, ask_row, verdict_row, tree_head}
 use Rattle.cert_check.specs.ExpectedItems.{spent_head, finish_head, both_parts, one_part, nodes}
 use Rattle.cert_check.specs.LineGrammars.{Next, bad, go}
@@ -35,9 +35,10 @@ use Rattle.cert_check.specs.ExpectedItems.{whole_example, promised, after_tree_h
 use Rattle.cert_check.specs.ExpectedItems.{after_spent_head, after_finish_head, after_one_part}
 use Rattle.cert_check.specs.ExpectedItems.{after_both_parts, after_leaf, after_node_if}
 use Rattle.cert_check.specs.ExpectedItems.{after_score, after_lots, head_in, is_ending}
-use Rattle.line_tokens.specs.TreeNodes.{node_in}
-use Rattle.line_tokens.specs.LineRanges.{is_reason_for, name_of_club}
-use Rattle.cert_check.specs.ExpectedItems.{word_in_row, with_open}
+use Rattle.line_tokens.specs.TreeNodes.{wide_node_in}
+use Rattle.line_tokens.specs.LineRanges.{name_of_club}
+use Rattle.cert_check.specs.declared.expected.ReportKind.{ReportKind}
+use Rattle.cert_check.specs.ExpectedItems.{word_in_row, with_open, may_refute}
 use Rattle.cert_check.specs.ExpectedItems.{finish_with}
 use Rattle.cert_check.specs.Machine.{ending_of, report_grammar, basis_of}
 use Rattle.cert_check.proofs.AlikeLemmas.{Agree, same_where_agreed}
@@ -91,12 +92,12 @@ alike_spent question (Some RefutedTree) = record { same = refl; leaves = refl }
 alike_spent question (Some SpentTree) = record { same = refl; leaves = refl }
 alike_spent question (Some Example) = record { same = refl; leaves = refl }
 
-module _ (sheet : Sheet) (season : Results) (epoch other : ℕ) where
+module _ (kind : ReportKind) (sheet : Sheet) (season : Results) (epoch other : ℕ) where
   abbrev first : Basis
-  first = basis_of sheet season epoch
+  first = basis_of kind sheet season epoch
 
   abbrev second : Basis
-  second = basis_of sheet season other
+  second = basis_of kind sheet season other
 
   alike_finish : (question : Question) (head : Option Head)
       → Alike (after_finish_head first question head) (after_finish_head second question head)
@@ -123,27 +124,25 @@ module _ (sheet : Sheet) (season : Results) (epoch other : ℕ) where
   alike_both inside outside (Some Example) =
       record { same = refl; leaves = ap (λ it. it && true) (example_is first inside) }
 
-  alike_leaf : (kind : TreeKind) (question : Question) (zones : List (List Literal))
+  alike_leaf : (tree : TreeKind) (question : Question) (zones : List (List Literal))
       (tally : Tally) (holds : Bool)
-      → Alike (after_leaf first kind question zones tally holds)
-      (after_leaf second kind question zones tally holds)
-  alike_leaf kind question [] tally holds = record { same = refl; leaves = refl }
-  alike_leaf kind question (zone ∷ zones) tally holds = record { same = refl; leaves = refl }
+      → Alike (after_leaf first tree question zones tally holds)
+      (after_leaf second tree question zones tally holds)
+  alike_leaf tree question [] tally holds = record { same = refl; leaves = refl }
+  alike_leaf tree question (zone ∷ zones) tally holds = record { same = refl; leaves = refl }
 
-  alike_node : (kind : TreeKind) (question : Question) (zone : List Literal)
-      (zones : List (List Literal)) (tally : Tally) (it : Option TreeNode)
-      → Alike (after_node_if first kind question zone zones tally it)
-      (after_node_if second kind question zone zones tally it)
-  alike_node kind question zone zones tally None = record { same = refl; leaves = refl }
-  alike_node kind question zone zones tally (Some (node.Split test fresh)) =
+  alike_node : (tree : TreeKind) (question : Question) (zone : List Literal)
+      (zones : List (List Literal)) (tally : Tally) (it : Option WideNode)
+      → Alike (after_node_if first tree question zone zones tally it)
+      (after_node_if second tree question zone zones tally it)
+  alike_node tree question zone zones tally None = record { same = refl; leaves = refl }
+  alike_node tree question zone zones tally (Some (node.Split test fresh)) =
       alike_if (is_test_for sheet question test) _ _ (record { same = refl; leaves = refl })
-  alike_node kind question zone zones tally (Some (node.Refuted reason fresh)) =
-      alike_if (is_reason_for sheet question reason) _ _
-      (alike_leaf kind question zones _ _)
-  alike_node kind question zone zones tally (Some node.Open) =
-      alike_leaf kind question zones (with_open tally) true
-  alike_node kind question zone zones tally (Some (node.Lent number)) =
-      record { same = refl; leaves = refl }
+  alike_node tree question zone zones tally (Some (node.Refuted reason fresh)) =
+      alike_if (may_refute kind sheet question reason) _ _
+      (alike_leaf tree question zones _ _)
+  alike_node tree question zone zones tally (Some node.Open) =
+      alike_leaf tree question zones (with_open tally) true
 
   alike_score : (question : Question) (ended left : List (Option Score)) (it : ProofLine)
       → Alike (after_score first question ended left it)
@@ -186,10 +185,14 @@ module _ (sheet : Sheet) (season : Results) (epoch other : ℕ) where
   alike_line (both_parts line club) (Proof it) item = alike_both _ _ (head_in Inside it)
   alike_line (one_part question) (Proof it) item =
       alike_one question (head_in question.claim it)
-  alike_line (nodes kind question zone zones tally) (Proof it) item =
-      alike_node kind question zone zones tally (node_in kind it)
+  alike_line (nodes tree question zone zones tally) (Proof it) item =
+      alike_node tree question zone zones tally (wide_node_in tree (Proof it))
   alike_line (score question ended left) (Proof it) item = alike_score question ended left it
   alike_line (lots question ended) (Proof it) item = alike_lots question ended it
+
+  alike_line (nodes tree question zone zones tally) (Near rival fresh) item =
+      alike_node tree question zone zones tally (wide_node_in tree (Near rival fresh))
+  alike_line _ (Near rival fresh) item = record { same = refl; leaves = refl }
 
   -- lines that come where items are due
   pub alike_lines : (tokens : List Token) (dues : List Expected) (at unsettled : ℕ)

@@ -25,6 +25,7 @@ use Rattle.line_tokens.specs.Tokens.{token_of, counts}
 use Rattle.cert_check.specs.LineGrammars.{Ending, whole_at, bad_line, no_proof}
 use Rattle.cert_check.specs.LineGrammars.{short}
 use Rattle.cert_check.specs.ExpectedItems.{Basis}
+use Rattle.cert_check.specs.declared.expected.ReportKind.{ReportKind}
 use Rattle.cert_check.specs.Machine.{basis_of, part_of_ask, report_grammar}
 use Rattle.cert_check.specs.inside.Calls.{ending_from}
 use Rattle.cert_check.specs.declared.outcome.CheckOutcome.{CheckOutcome}
@@ -79,9 +80,9 @@ pub feed_outcome : (report : ReportInput) (entries : List Entry) (standing : Rep
     → outcome_from report entries standing
     ≡ outcome_of_ending report
     (standing.rows + rows_by report
-    (bases_from report.sheet standing.season standing.epoch entries))
+    (bases_from report.kind report.sheet standing.season standing.epoch entries))
     (ending_of_asks reports (tokens_of report.lines)
-    (bases_from report.sheet standing.season standing.epoch entries) standing.at
+    (bases_from report.kind report.sheet standing.season standing.epoch entries) standing.at
     standing.unsettled)
 feed_outcome report [] standing =
     end_counts standing (standing_at_end (record {
@@ -92,8 +93,8 @@ feed_outcome report [] standing =
 feed_outcome report (Change event ∷ entries) standing =
     feed_outcome report entries (progress_with standing (Change event))
 feed_outcome report (Ask ∷ entries) standing =
-    let basis = basis_of report.sheet standing.season standing.epoch in
-    let later = bases_from report.sheet standing.season standing.epoch entries in
+    let basis = basis_of report.kind report.sheet standing.season standing.epoch in
+    let later = bases_from report.kind report.sheet standing.season standing.epoch entries in
     let tokens = tokens_of report.lines in
     let rows = standing.rows + rows_by report (basis ∷ later) in
     ask_outcome report standing later (outcome_from report entries) (part_there report standing)
@@ -111,16 +112,17 @@ feed_outcome report (Proofs ∷ entries) standing = feed_outcome report entries 
 feed_outcome report (End ∷ entries) standing = feed_outcome report entries standing
 
 -- what a report comes to by the asks of its feed
-pub report_comes : (sheet : Sheet) (entries : List Entry) (asks : Asks) (told : ReportLines)
+pub report_comes : (kind : ReportKind) (sheet : Sheet) (entries : List Entry) (asks : Asks)
+    (told : ReportLines)
     → bases_in sheet asks
-    ≡ bases_from sheet (unplayed_season (length sheet.clubs) (length sheet.fixtures)) 0 entries
-    → outcome_from (report_read sheet told) entries (first_progress sheet)
-    ≡ outcome_of_ending (report_read sheet told) (rows_in sheet asks)
+    ≡ bases_from kind sheet (unplayed_season (length sheet.clubs) (length sheet.fixtures)) 0 entries
+    → outcome_from (report_read kind sheet told) entries (first_progress sheet)
+    ≡ outcome_of_ending (report_read kind sheet told) (rows_in sheet asks)
     (ending_in sheet asks told.lines)
-report_comes sheet entries asks told same =
-    let report = report_read sheet told in
+report_comes kind sheet entries asks told same =
+    let report = report_read kind sheet told in
     let basis = λ (epoch : ℕ).
-    basis_of sheet (season_after sheet (take epoch asks.log.items)) epoch in
+    basis_of asks.kind sheet (season_after sheet (take epoch asks.log.items)) epoch in
     let each = length sheet.lines * length sheet.clubs in
     let rows : rows_by report (bases_in sheet asks) ≡ rows_in sheet asks =
     ap (λ n. n * each) (length-map asks.epochs.items basis)

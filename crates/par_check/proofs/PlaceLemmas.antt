@@ -393,7 +393,7 @@ bases_count : (sheet : Sheet) (asks : Asks)
     → length (bases_in sheet asks) ≡ length asks.epochs.items
 bases_count sheet asks =
     let basis = λ (epoch : ℕ).
-    basis_of sheet (season_after sheet (take epoch asks.log.items)) epoch in
+    basis_of asks.kind sheet (season_after sheet (take epoch asks.log.items)) epoch in
     length-map asks.epochs.items basis
 
 -- behind the last ask nothing is left

@@ -5,15 +5,15 @@ use Rattle.std.proofs.Common.{refl, ap, ◌∙◌, arith, length-append}
 use Rattle.std.proofs.lemmas.List.{map-append}
 use Rattle.league_core.specs.declared.question.Question.{Question}
 use Rattle.league_core.specs.declared.season.Score.{Score}
-use Rattle.league_core.specs.declared.tree.TreeNode.{TreeNode}
-use Rattle.league_core.specs.declared.tree.TreeNode.TheVariants as node
+use Rattle.wide_lines.specs.declared.wide_node.WideNode.{WideNode}
+use Rattle.wide_lines.specs.declared.wide_node.WideNode.TheVariants as node
 use Rattle.league_core.specs.declared.zone.Literal.{Literal}
 use Rattle.league_core.specs.game.Ranking.{are_lots}
 use Rattle.cert_text.specs.declared.proof_line.ProofLine.{ProofLine}
 use Rattle.cert_text.specs.declared.proof_line.ProofLine.TheVariants as line
 use Rattle.cert_text.specs.TreeLines.{is_test_for}
 use Rattle.line_tokens.specs.declared.token.Token.{Token}
-use Rattle.line_tokens.specs.declared.token.Token.TheVariants.{Blank, Row, Proof, Unknown}
+use Rattle.line_tokens.specs.declared.token.Token.TheVariants.{Blank, Row, Proof, Near, Unknown}
 use Rattle.line_tokens.specs.declared.tree_line.TreeKind.{TreeKind}
 use Rattle.cert_check.specs.declared.expected.Tally.{Tally}
 use Rattle.cert_check.specs.ExpectedItems.{Basis, Expected, ask_row, verdict_row, tree_head}
@@ -21,16 +21,15 @@ use Rattle.cert_check.specs.ExpectedItems.{spent_head}
 use Rattle.cert_check.specs.ExpectedItems.{finish_head, both_parts, one_part, nodes, score, lots}
 use Rattle.cert_check.specs.LineGrammars.{Next, bad, go, Ending, by_next}
 use Rattle.cert_check.specs.ExpectedItems.{after, after_node_if, after_leaf}
-use Rattle.line_tokens.specs.TreeNodes.{node_in}
-use Rattle.line_tokens.specs.LineRanges.{is_reason_for}
-use Rattle.cert_check.specs.ExpectedItems.{is_ending, scores_due}
+use Rattle.line_tokens.specs.TreeNodes.{wide_node_in}
+use Rattle.cert_check.specs.ExpectedItems.{is_ending, scores_due, may_refute}
 use Rattle.cert_check.specs.ExpectedItems.{after_score}
 use Rattle.cert_check.specs.ExpectedItems.{after_lots}
 use Rattle.cert_check.specs.Machine.{report_grammar, with_unsettled}
 use Rattle.cert_check.specs.inside.Pieces.{believed}
 use Rattle.par_check.specs.FirstStops.{grammar_of}
 use Rattle.par_check.specs.Shapes.{DueShape, shape_of, shapes_in, shapes_behind_leaf}
-use Rattle.par_check.specs.Shapes.{shapes_behind_node}
+use Rattle.par_check.specs.Shapes.{shapes_behind_node, shapes_behind_near}
 use Rattle.par_check.specs.Shapes.{shape_of_scores, shapes_behind_score, shapes_behind_lots}
 use Rattle.par_check.specs.Shapes.{shapes_behind_proof, shapes_behind_row, shapes_after, by_shapes}
 use Rattle.par_check.specs.Shapes.{shapes_ending, ShapesSuffice}
@@ -52,18 +51,17 @@ under_test false next shapes same = refl
 
 -- behind a node
 node_shapes : (basis : Basis) (kind : TreeKind) (question : Question) (zone : List Literal)
-    (zones : List (List Literal)) (tally : Tally) (it : Option TreeNode)
+    (zones : List (List Literal)) (tally : Tally) (it : Option WideNode)
     → shapes_in (after_node_if basis kind question zone zones tally it)
     ≡ shapes_behind_node basis kind question (length zones) it
 node_shapes basis kind question zone zones tally None = refl
 node_shapes basis kind question zone zones tally (Some (node.Split test fresh)) =
     under_test (is_test_for basis.sheet question test) _ _ refl
 node_shapes basis kind question zone zones tally (Some (node.Refuted reason fresh)) =
-    under_test (is_reason_for basis.sheet question reason) _ _
+    under_test (may_refute basis.kind basis.sheet question reason) _ _
     (leaf_shapes basis kind question zones _ _)
 node_shapes basis kind question zone zones tally (Some node.Open) =
     leaf_shapes basis kind question zones _ true
-node_shapes basis kind question zone zones tally (Some (node.Lent number)) = refl
 
 -- behind the scores that have ended
 pub scores_shape : (question : Question) (ended left : List (Option Score)) (at : ℕ)
@@ -104,9 +102,25 @@ proof_shapes basis (finish_head question) it = refl
 proof_shapes basis (both_parts line club) it = refl
 proof_shapes basis (one_part question) it = refl
 proof_shapes basis (nodes kind question zone zones tally) it =
-    node_shapes basis kind question zone zones tally (node_in kind it)
+    node_shapes basis kind question zone zones tally (wide_node_in kind (Proof it))
 proof_shapes basis (score question ended left) it = score_shapes basis question ended left it
 proof_shapes basis (lots question ended) it = lots_shapes basis question ended it
+
+-- behind a near leaf
+near_shapes : (basis : Basis) (due : Expected) (rival : ℕ) (fresh : Bool)
+    → shapes_in (after basis due (Near rival fresh))
+    ≡ shapes_behind_near basis (shape_of due) rival fresh
+near_shapes basis ask_row rival fresh = refl
+near_shapes basis (verdict_row line club) rival fresh = refl
+near_shapes basis (tree_head question) rival fresh = refl
+near_shapes basis (spent_head question) rival fresh = refl
+near_shapes basis (finish_head question) rival fresh = refl
+near_shapes basis (both_parts line club) rival fresh = refl
+near_shapes basis (one_part question) rival fresh = refl
+near_shapes basis (nodes kind question zone zones tally) rival fresh =
+    node_shapes basis kind question zone zones tally (wide_node_in kind (Near rival fresh))
+near_shapes basis (score question ended left) rival fresh = refl
+near_shapes basis (lots question ended) rival fresh = refl
 
 -- behind a row
 row_shapes : (basis : Basis) (due : Expected) (fields : List (List ℕ))
@@ -128,6 +142,7 @@ pub same_shapes : (basis : Basis) (due : Expected) (token : Token)
 same_shapes basis due Blank = refl
 same_shapes basis due (Row fields) = row_shapes basis due fields
 same_shapes basis due (Proof it) = proof_shapes basis due it
+same_shapes basis due (Near rival fresh) = near_shapes basis due rival fresh
 same_shapes basis due Unknown = refl
 
 -- one line of both readings

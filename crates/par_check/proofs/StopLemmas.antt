@@ -3,7 +3,7 @@ use Rattle.std.proofs.Common.{◌≡◌, ℕ, ◌+◌, Bool, true, false, List, 
 use Rattle.std.proofs.Common.{if◌then◌else◌}
 use Rattle.std.proofs.lemmas.Bool.{false≢true}
 use Rattle.line_tokens.specs.declared.token.Token.{Token}
-use Rattle.line_tokens.specs.declared.token.Token.TheVariants.{Blank, Row, Proof, Unknown}
+use Rattle.line_tokens.specs.declared.token.Token.TheVariants.{Blank, Row, Proof, Near, Unknown}
 use Rattle.cert_check.specs.LineGrammars.{bad, go, by_next}
 use Rattle.cert_check.specs.ExpectedItems.{Basis, Expected, ask_row, is_ask_row}
 use Rattle.cert_check.specs.Machine.{with_unsettled, ending_of, report_grammar}
@@ -27,6 +27,7 @@ ask_row_believed basis (Blank ∷ tokens) at unsettled =
 ask_row_believed basis (Row fields ∷ tokens) at unsettled =
     by_row basis tokens (is_ask_row basis.epoch fields) at (with_unsettled unsettled (Row fields))
 ask_row_believed basis (Proof it ∷ tokens) at unsettled = refl
+ask_row_believed basis (Near rival fresh ∷ tokens) at unsettled = refl
 ask_row_believed basis (Unknown ∷ tokens) at unsettled = refl
 
 -- what is no item has no line that is no proof

@@ -30,7 +30,7 @@ said_by_any : (sheet : Sheet) (asks : Asks) (lines : List NumberedLine) (item : 
     → IsWithinLimits sheet → item.question_row < length (rows_of sheet)
     → unproved_by sheet asks (tokens_of lines) item ≡ judged_of sheet asks lines item
 said_by_any sheet asks lines item limits within =
-    ap unproved_in (alike_lines sheet (season_at sheet asks item.ask)
+    ap unproved_in (alike_lines asks.kind sheet (season_at sheet asks item.ask)
     (get_or asks.epochs.items item.ask 0) 0 (drop item.from (tokens_of lines))
     (get_or (rows_of sheet) item.question_row ask_row ∷ []) item.from 0
     (row_is_item sheet item.question_row limits within))

@@ -28,7 +28,7 @@ first_stop_in sheet asks lines =
 -- the line of an item that is no proof, where it is judged for itself by the season of its ask
 abbrev pub judged_of : Sheet → Asks → List NumberedLine → Item → Option ℕ
 judged_of sheet asks lines item =
-    unproved_of (tokens_of lines) (basis_of sheet (season_at sheet asks item.ask) 0) item
+    unproved_of (tokens_of lines) (basis_of asks.kind sheet (season_at sheet asks item.ask) 0) item
 
 -- the first stop of a report is the first line that is no proof of these items, each judged for
 -- itself, else the grammar's

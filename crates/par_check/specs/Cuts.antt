@@ -9,6 +9,7 @@ use Rattle.league_core.specs.game.Sheets.{IsWithinLimits}
 use Rattle.league_core.specs.game.Results.{Results}
 use Rattle.league_core.specs.game.Seasons.{AreEventsOf, season_after}
 use Rattle.line_tokens.specs.declared.token.Token.{Token}
+use Rattle.cert_check.specs.declared.expected.ReportKind.{ReportKind}
 use Rattle.cert_check.specs.declared.item.PartRead.{PartRead}
 use Rattle.cert_check.specs.declared.stop.CheckStop.{CheckStop}
 use Rattle.cert_check.specs.declared.stop.CheckStop.TheVariants as stop
@@ -29,14 +30,15 @@ use Rattle.par_check.specs.FirstStops.{judged_by}
 
 -- ---- asks
 
--- what each ask is judged by: its epoch, and the season of the events before it
-abbrev pub bases_of : Sheet → List Event → List ℕ → List Basis
-bases_of sheet log epochs =
-    map (λ epoch. basis_of sheet (season_after sheet (take epoch log)) epoch) epochs
+-- what each ask is judged by in a report of this kind: its epoch, and the season of the events
+-- before it
+abbrev pub bases_of : ReportKind → Sheet → List Event → List ℕ → List Basis
+bases_of kind sheet log epochs =
+    map (λ epoch. basis_of kind sheet (season_after sheet (take epoch log)) epoch) epochs
 
 -- the same of asks
 abbrev pub bases_in : Sheet → Asks → List Basis
-bases_in sheet asks = bases_of sheet asks.log.items asks.epochs.items
+bases_in sheet asks = bases_of asks.kind sheet asks.log.items asks.epochs.items
 
 -- asks that a checker takes: events of the sheet; epochs within them, none less than the one
 -- before; numbers of 32 bits
@@ -202,7 +204,7 @@ EndsSo lines ending (Err halt.OutOfMemory) = ⊥
 -- what the ask at a position is judged by
 abbrev pub basis_at : Sheet → Asks → ℕ → Basis
 basis_at sheet asks ask =
-    basis_of sheet (season_at sheet asks ask) (get_or asks.epochs.items ask 0)
+    basis_of asks.kind sheet (season_at sheet asks ask) (get_or asks.epochs.items ask 0)
 
 -- the line of an item that is no proof, by the asks
 abbrev pub unproved_by : Sheet → Asks → List Token → Item → Option ℕ

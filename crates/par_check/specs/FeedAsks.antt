@@ -6,6 +6,7 @@ use Rattle.league_core.specs.declared.season.Event.{Event}
 use Rattle.league_core.specs.game.Seasons.{AreEventsOf, event_applied, season_after}
 use Rattle.result_log.specs.declared.entry.Entry.{Entry}
 use Rattle.result_log.specs.declared.entry.Entry.TheVariants.{Change, Ask, Proofs, End}
+use Rattle.cert_check.specs.declared.expected.ReportKind.{ReportKind}
 use Rattle.cert_check.specs.LineLists.{line_number_at}
 use Rattle.cert_check.specs.ExpectedItems.{Basis}
 use Rattle.cert_check.specs.LineGrammars.{Ending, whole_at, bad_line, no_proof, short}
@@ -18,15 +19,16 @@ use Rattle.par_check.specs.Cuts.{bases_of}
 use Rattle.cert_check.specs.Outcomes.{ReportInput, ReportProgressView, outcome_at_end}
 use Rattle.cert_check.specs.declared.stop.Accepted.{Accepted}
 
--- what each ask among entries is judged by, from a season and a number of events on
-abbrev pub bases_from : Sheet → Results → ℕ → List Entry → List Basis
-bases_from sheet season epoch [] = []
-bases_from sheet season epoch (Change event ∷ entries) =
-    bases_from sheet (event_applied season event) (epoch + 1) entries
-bases_from sheet season epoch (Ask ∷ entries) =
-    basis_of sheet season epoch ∷ bases_from sheet season epoch entries
-bases_from sheet season epoch (Proofs ∷ entries) = bases_from sheet season epoch entries
-bases_from sheet season epoch (End ∷ entries) = bases_from sheet season epoch entries
+-- what each ask among entries is judged by in a report of this kind, from a season and a number of
+-- events on
+abbrev pub bases_from : ReportKind → Sheet → Results → ℕ → List Entry → List Basis
+bases_from kind sheet season epoch [] = []
+bases_from kind sheet season epoch (Change event ∷ entries) =
+    bases_from kind sheet (event_applied season event) (epoch + 1) entries
+bases_from kind sheet season epoch (Ask ∷ entries) =
+    basis_of kind sheet season epoch ∷ bases_from kind sheet season epoch entries
+bases_from kind sheet season epoch (Proofs ∷ entries) = bases_from kind sheet season epoch entries
+bases_from kind sheet season epoch (End ∷ entries) = bases_from kind sheet season epoch entries
 
 -- how far a report is read whose answers were accepted so
 abbrev pub standing_at_end : Accepted → ReportProgressView
@@ -55,9 +57,9 @@ pub record AreAsksSoFar (sheet : Sheet) (entries : List Entry) (at : ℕ) (log :
   pub in_order : (k : ℕ) → k + 1 < length epochs → get_or epochs k 0 ≤ get_or epochs (k + 1) 0
   pub log_count : length log ≤ at
   pub ask_count : length epochs ≤ at
-  pub bases : bases_of sheet log epochs
-      ++ bases_from sheet (season_after sheet log) (length log) (drop at entries)
-      ≡ bases_from sheet (season_after sheet []) 0 entries
+  pub bases : (kind : ReportKind) → bases_of kind sheet log epochs
+      ++ bases_from kind sheet (season_after sheet log) (length log) (drop at entries)
+      ≡ bases_from kind sheet (season_after sheet []) 0 entries
 
 -- a call that takes one entry: the asks are those of one entry more
 abbrev pub TakesEntry : Entry → List Event → List ℕ → List Event → List ℕ → Type 0

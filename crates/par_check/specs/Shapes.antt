@@ -1,25 +1,25 @@
 -- What the grammar alone has to remember of what is due: of a tree's zones their number, of the
 -- scores that have ended how many they are.
-use Rattle.std.specs.Prelude.{◌≡◌, ℕ, suc, zero, ◌+◌, ◌&&◌, ◌==◌, List, [], ◌∷◌, ◌++◌, length, map}
+use Rattle.std.specs.Prelude.{◌≡◌, ℕ, suc, zero, ◌+◌, Bool, ◌&&◌, ◌==◌, List, [], ◌∷◌, ◌++◌, length}
+use Rattle.std.specs.Prelude.{map}
 use Rattle.std.specs.Prelude.{Option, Some, None, if◌then◌else◌}
 use Rattle.league_core.specs.declared.question.Question.{Question}
 use Rattle.league_core.specs.declared.season.Score.{Score}
-use Rattle.league_core.specs.declared.tree.TreeNode.{TreeNode}
-use Rattle.league_core.specs.declared.tree.TreeNode.TheVariants as node
 use Rattle.league_core.specs.game.Ranking.{are_lots}
 use Rattle.cert_text.specs.declared.proof_line.ProofLine.{ProofLine}
 use Rattle.cert_text.specs.declared.proof_line.ProofLine.TheVariants as line
 use Rattle.cert_text.specs.TreeLines.{is_test_for}
+use Rattle.wide_lines.specs.declared.wide_node.WideNode.{WideNode}
+use Rattle.wide_lines.specs.declared.wide_node.WideNode.TheVariants as node
 use Rattle.line_tokens.specs.declared.token.Token.{Token}
-use Rattle.line_tokens.specs.declared.token.Token.TheVariants.{Blank, Row, Proof, Unknown}
+use Rattle.line_tokens.specs.declared.token.Token.TheVariants.{Blank, Row, Proof, Near, Unknown}
 use Rattle.line_tokens.specs.declared.tree_line.TreeKind.{TreeKind}
 use Rattle.cert_check.specs.ExpectedItems.{Basis, Expected, ask_row, verdict_row, tree_head}
 use Rattle.cert_check.specs.ExpectedItems.{spent_head, finish_head, both_parts, one_part, nodes}
 use Rattle.cert_check.specs.LineGrammars.{Next, bad, go, Ending, whole_at, bad_line, short}
 use Rattle.cert_check.specs.ExpectedItems.{score, lots, after}
-use Rattle.line_tokens.specs.TreeNodes.{node_in}
-use Rattle.line_tokens.specs.LineRanges.{is_reason_for}
-use Rattle.cert_check.specs.ExpectedItems.{is_ending}
+use Rattle.line_tokens.specs.TreeNodes.{wide_node_in}
+use Rattle.cert_check.specs.ExpectedItems.{is_ending, may_refute}
 use Rattle.cert_check.specs.Machine.{with_unsettled}
 use Rattle.par_check.specs.FirstStops.{grammar_of}
 
@@ -55,18 +55,17 @@ shapes_behind_leaf kind question zero = []
 shapes_behind_leaf kind question (suc zones) = some_nodes kind question zones ∷ []
 
 -- what is due behind a node
-abbrev pub shapes_behind_node : Basis → TreeKind → Question → ℕ → Option TreeNode
+abbrev pub shapes_behind_node : Basis → TreeKind → Question → ℕ → Option WideNode
     → Option (List DueShape)
 shapes_behind_node basis kind question zones None = None
 shapes_behind_node basis kind question zones (Some (node.Split test fresh)) =
     if is_test_for basis.sheet question test
     then Some (some_nodes kind question (suc zones) ∷ []) else None
 shapes_behind_node basis kind question zones (Some (node.Refuted reason fresh)) =
-    if is_reason_for basis.sheet question reason
+    if may_refute basis.kind basis.sheet question reason
     then Some (shapes_behind_leaf kind question zones) else None
 shapes_behind_node basis kind question zones (Some node.Open) =
     Some (shapes_behind_leaf kind question zones)
-shapes_behind_node basis kind question zones (Some (node.Lent number)) = None
 
 -- the next fixture for which the season has no score, or the lots
 abbrev pub shape_of_scores : Question → ℕ → List (Option Score) → DueShape
@@ -92,10 +91,17 @@ shapes_behind_lots basis _ = None
 abbrev pub shapes_behind_proof : Basis → DueShape → ProofLine → Option (List DueShape)
 shapes_behind_proof basis (as_it_is due) it = shapes_in (after basis due (Proof it))
 shapes_behind_proof basis (some_nodes kind question zones) it =
-    shapes_behind_node basis kind question zones (node_in kind it)
+    shapes_behind_node basis kind question zones (wide_node_in kind (Proof it))
 shapes_behind_proof basis (some_score question at left) it =
     shapes_behind_score basis question at left it
 shapes_behind_proof basis (some_lots question) it = shapes_behind_lots basis it
+
+-- what is due behind a near leaf
+abbrev pub shapes_behind_near : Basis → DueShape → ℕ → Bool → Option (List DueShape)
+shapes_behind_near basis (as_it_is due) rival fresh = shapes_in (after basis due (Near rival fresh))
+shapes_behind_near basis (some_nodes kind question zones) rival fresh =
+    shapes_behind_node basis kind question zones (wide_node_in kind (Near rival fresh))
+shapes_behind_near basis _ rival fresh = None
 
 -- what is due behind a row
 abbrev pub shapes_behind_row : Basis → DueShape → List (List ℕ) → Option (List DueShape)
@@ -107,6 +113,7 @@ abbrev pub shapes_after : Basis → DueShape → Token → Option (List DueShape
 shapes_after basis shape Blank = Some (shape ∷ [])
 shapes_after basis shape (Row fields) = shapes_behind_row basis shape fields
 shapes_after basis shape (Proof it) = shapes_behind_proof basis shape it
+shapes_after basis shape (Near rival fresh) = shapes_behind_near basis shape rival fresh
 shapes_after basis shape Unknown = None
 
 -- what a line comes to by shapes

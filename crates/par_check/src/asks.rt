@@ -5,13 +5,15 @@ ghost use Rattle.league_core.specs.game.Seasons.{AreEventsOf, IsLeague, season_a
 ghost use Rattle.par_check.specs.Cuts as cuts;
 ghost use Rattle.par_check.specs.Cuts.{AreAsks, season_at, season_before};
 
-use cert_check::CheckStop;
+use cert_check::{CheckStop, ReportKind};
 use league_core::{Event, OutOfMemory, Season, Sheet};
 use std::alloc::Global;
 
-/// The events of a feed, and the epoch of each of its asks: how many events came before it.
+/// The events of a feed, and the epoch of each of its asks: how many events came before it. A
+/// report of this kind answers them.
 #[derive(Drop)]
 pub struct Asks {
+    pub kind: ReportKind,
     pub log: Vec<Event>,
     pub epochs: Vec<u32>,
 }

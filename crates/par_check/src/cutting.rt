@@ -13,7 +13,7 @@ ghost use Rattle.par_check.specs.Checked.{IsToldByItems};
 use crate::asks::{Asks, Cut, Item, advance};
 use crate::item_rows::{row_at, rows_in_answer};
 use crate::outline::outline;
-use cert_check::{CheckStop, CheckStopAt, LineList, PartRead, Report};
+use cert_check::{AskedPart, CheckStop, CheckStopAt, LineList, PartRead, Report};
 use league_core::{OutOfMemory, Season, Sheet};
 use std::alloc::Global;
 
@@ -74,7 +74,11 @@ pub fn read_cut(
     };
     for ask in 0..asks.epochs.len() {
         let epoch = advance(sheet, asks, &mut season, ask);
-        let report = Report::new(alloc, sheet, &season, u64::from(epoch), lines)?;
+        let asked = AskedPart {
+            kind: asks.kind,
+            epoch: u64::from(epoch),
+        };
+        let report = Report::new(alloc, sheet, &season, asked, lines)?;
         match cut_ask(alloc, &report, ask as u32, reached.next, &mut items) {
             Ok(found) => reached = reached.and(found),
             Err(stop) => return stopped(items, stop),

@@ -9,20 +9,27 @@ ghost use Rattle.par_check.specs.Cuts.{AreAsks, bases_in};
 ghost use Rattle.par_check.specs.FeedAsks.{TakesEntry, bases_from};
 
 use crate::asks::Asks;
+use cert_check::ReportKind;
 use league_core::{Event, OutOfMemory, Sheet};
 use result_log::Entry;
 use std::alloc::Global;
 
-/// The events and the asks among the entries of a sheet's feed.
-pub fn asks_of(alloc: Global, sheet: &Sheet, entries: &[Entry]) -> Result<Asks, OutOfMemory>
+/// The events and the asks among the entries of a sheet's feed, for a report of this kind.
+pub fn asks_of(
+    alloc: Global,
+    kind: ReportKind,
+    sheet: &Sheet,
+    entries: &[Entry],
+) -> Result<Asks, OutOfMemory>
     requires limits { IsWithinLimits sheet.now }
     requires entries { All (IsEntryOf sheet.now) entries.now }
     requires few { length entries.now ≤ input_limit }
     ensures are { IfOk result (AreAsks sheet.now) }
-    ensures bases { IfOk result (λ asks. bases_in sheet.now asks ≡ bases_from sheet.now
+    ensures bases { IfOk result (λ asks. bases_in sheet.now asks ≡ bases_from kind sheet.now
         (unplayed_season (length sheet.now.clubs) (length sheet.now.fixtures)) 0 entries.now) }
 {
     let mut asks = Asks {
+        kind,
         log: Vec::new(alloc),
         epochs: Vec::new(alloc),
     };
@@ -34,8 +41,9 @@ pub fn asks_of(alloc: Global, sheet: &Sheet, entries: &[Entry]) -> Result<Asks, 
 
 fn add_entry(asks: &mut Asks, entry: &Entry) -> Result<(), OutOfMemory>
     requires { length asks.old.log.items ≤ input_limit }
-    ensures { OnOk result (TakesEntry entry.now asks.old.log.items asks.old.epochs.items
+    ensures takes { OnOk result (TakesEntry entry.now asks.old.log.items asks.old.epochs.items
         asks.new.log.items asks.new.epochs.items) }
+    ensures kind { asks.new.kind ≡ asks.old.kind }
 {
     match entry {
         Entry::Change(event) => {
@@ -54,6 +62,7 @@ fn add_entry(asks: &mut Asks, entry: &Entry) -> Result<(), OutOfMemory>
 fn add_event(asks: &mut Asks, event: Event) -> Result<(), OutOfMemory>
     ensures log { OnOk result (asks.new.log.items ≡ asks.old.log.items ++ event ∷ []) }
     ensures epochs { asks.new.epochs.items ≡ asks.old.epochs.items }
+    ensures kind { asks.new.kind ≡ asks.old.kind }
 {
     asks.log.push(event)?;
     Ok(())
@@ -65,6 +74,7 @@ fn add_ask(asks: &mut Asks) -> Result<(), OutOfMemory>
     ensures epochs { OnOk result (asks.new.epochs.items
         ≡ asks.old.epochs.items ++ length asks.old.log.items ∷ []) }
     ensures log { asks.new.log.items ≡ asks.old.log.items }
+    ensures kind { asks.new.kind ≡ asks.old.kind }
 {
     let epoch = asks.log.len() as u32;
     asks.epochs.push(epoch)?;

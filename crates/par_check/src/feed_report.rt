@@ -9,16 +9,20 @@ ghost use Rattle.par_check.specs.FeedAsks.{standing_at_end};
 
 use crate::feed_asks::asks_of;
 use crate::report_check::check_all;
-use cert_check::{Accepted, CheckOutcome, CheckStop, ReportFault, ReportLines, check_end};
+use cert_check::{
+    Accepted, CheckOutcome, CheckStop, ReportFault, ReportKind, ReportLines, check_end,
+};
 use league_core::{OutOfMemory, Sheet};
 use result_log::Entry;
 use std::alloc::Global;
 use std::thread::Threads;
 
-/// What the lines that are known come to as a report on the sheet, for a feed of these entries.
+/// What the lines that are known come to as a report of this kind on the sheet, for a feed of these
+/// entries.
 pub fn report_outcome<R: Threads + Sync>(
     rt: &R,
     alloc: Global,
+    kind: ReportKind,
     sheet: &Sheet,
     entries: &[Entry],
     told: &ReportLines,
@@ -27,9 +31,10 @@ pub fn report_outcome<R: Threads + Sync>(
     requires entries { All (IsEntryOf sheet.now) entries.now }
     requires few { length entries.now ≤ input_limit }
     ensures { IfOk result (λ outcome. outcome
-        ≡ outcome_from (report_read sheet.now told.now) entries.now (first_progress sheet.now)) }
+        ≡ outcome_from (report_read kind sheet.now told.now) entries.now
+        (first_progress sheet.now)) }
 {
-    let asks = asks_of(alloc, sheet, entries)?;
+    let asks = asks_of(alloc, kind, sheet, entries)?;
     if told.lines.len() > u32::MAX as usize {
         return Err(OutOfMemory);
     }

@@ -2,8 +2,7 @@
 
 ghost use Rattle.std.specs.Prelude.{◌≡◌, ◌<◌, IfOk, IsTrue, Some, [], ◌∷◌, length, suc};
 ghost use Rattle.cert_text.specs.TreeLines.{is_test_for};
-ghost use Rattle.cert_check.specs.ExpectedItems.{Basis};
-ghost use Rattle.line_tokens.specs.LineRanges as ranges;
+ghost use Rattle.cert_check.specs.ExpectedItems.{Basis, may_refute};
 ghost use Rattle.line_tokens.specs.Tokens.{counts};
 ghost use Rattle.par_check.specs.Shapes.{shapes_after, shapes_behind_leaf, shapes_behind_node};
 ghost use Rattle.par_check.specs.Shapes.{some_nodes};
@@ -13,9 +12,10 @@ use crate::item_head::{
     behind_both, behind_finish, behind_lots, behind_one, behind_spent, behind_tree, behind_word,
     next_score,
 };
-use cert_check::{Report, full_question, head_of};
-use league_core::{Claim, OutOfMemory, Reason, Test, TreeNode};
-use line_tokens::{Token, TreeKind, is_reason_for, is_test_for, node_of};
+use cert_check::{Report, full_question, head_of, may_refute};
+use league_core::{Claim, OutOfMemory, Test};
+use line_tokens::{Token, TreeKind, is_test_for, wide_node_of};
+use wide_lines::{WideNode, WideReason};
 
 /// The line and the club of an item.
 #[derive(Clone, Copy)]
@@ -71,6 +71,7 @@ pub fn due_after(
         Token::Blank => Ok(Some(DueAfter::One(due))),
         Token::Row(_) => due_behind(report, row, due, token),
         Token::Proof(_) => due_behind(report, row, due, token),
+        Token::Near { .. } => due_behind(report, row, due, token),
         Token::Unknown => Ok(None),
     }
 }
@@ -94,7 +95,7 @@ fn due_behind(
         ItemDue::FinishHead(claim) => Ok(behind_finish(report, head_of(token, claim), claim)),
         ItemDue::BothParts => Ok(behind_both(report, head_of(token, Claim::Inside))),
         ItemDue::OnePart(claim) => Ok(behind_one(report, head_of(token, claim), claim)),
-        ItemDue::Nodes(tree) => behind_node(report, row, tree, node_of(tree.kind, token)),
+        ItemDue::Nodes(tree) => behind_node(report, row, tree, wide_node_of(tree.kind, token)),
         ItemDue::Score { claim, fixture } => Ok(behind_score(report, claim, fixture, token)),
         ItemDue::Lots(_) => Ok(behind_lots(report.lots_in(token)?.is_some())),
     }
@@ -105,7 +106,7 @@ fn behind_node(
     report: &Report,
     row: ItemRow,
     tree: TreeDue,
-    node: Option<TreeNode>,
+    node: Option<WideNode>,
 ) -> Result<Option<DueAfter>, OutOfMemory>
     requires { row.club < length report.now.basis.sheet.clubs }
     ensures { IfOk result (λ left. shapes_left report.now.basis row left
@@ -122,7 +123,7 @@ fn behind_this_node(
     report: &Report,
     row: ItemRow,
     tree: TreeDue,
-    node: TreeNode,
+    node: WideNode,
 ) -> Result<Option<DueAfter>, OutOfMemory>
     requires { row.club < length report.now.basis.sheet.clubs }
     ensures { IfOk result (λ left. shapes_left report.now.basis row left
@@ -130,22 +131,21 @@ fn behind_this_node(
         (Some node)) }
 {
     match node {
-        TreeNode::Split { test, .. } => {
+        WideNode::Split { test, .. } => {
             if may_split(report, row, tree.claim, test) {
                 Ok(Some(behind_split(tree)?))
             } else {
                 Ok(None)
             }
         }
-        TreeNode::Refuted { reason, .. } => {
-            if may_refute(report, row, tree.claim, reason) {
+        WideNode::Refuted { reason, .. } => {
+            if may_have_leaf(report, row, tree.claim, reason) {
                 Ok(Some(behind_leaf(tree)))
             } else {
                 Ok(None)
             }
         }
-        TreeNode::Open => Ok(Some(behind_leaf(tree))),
-        TreeNode::Lent(_) => Ok(None),
+        WideNode::Open => Ok(Some(behind_leaf(tree))),
     }
 }
 
@@ -156,13 +156,14 @@ fn may_split(report: &Report, row: ItemRow, claim: Claim, test: Test) -> bool
     is_test_for(report.sheet(), &question, test)
 }
 
-fn may_refute(report: &Report, row: ItemRow, claim: Claim, reason: Reason) -> bool
+fn may_have_leaf(report: &Report, row: ItemRow, claim: Claim, reason: WideReason) -> bool
     requires { row.club < length report.now.basis.sheet.clubs }
-    ensures { result ≡ ranges.is_reason_for report.now.basis.sheet (question_of row claim) reason }
+    ensures { result ≡ may_refute report.now.basis.kind report.now.basis.sheet
+        (question_of row claim) reason }
 {
     report.recall_invariant();
     let question = full_question(row.club, row.line, claim);
-    is_reason_for(report.sheet(), &question, reason)
+    may_refute(report.kind(), report.sheet(), &question, reason)
 }
 
 // One zone more behind the one that is due. Where their number would not fit, memory was exhausted

@@ -8,14 +8,15 @@ ghost use Rattle.par_check.specs.Cuts.{unproved_of};
 
 use crate::asks::Item;
 use crate::item_rows::row_at;
-use cert_check::{CheckStopAt, LineList, Report};
+use cert_check::{AskedPart, CheckStopAt, LineList, Report, ReportKind};
 use league_core::{OutOfMemory, Season, Sheet};
 use std::alloc::Global;
 
 /// The number of an item's first line that fits and does not prove what it says, by the season of
-/// its ask. The epoch of an ask is told by its own row alone.
+/// its ask, in a report of this kind. The epoch of an ask is told by its own row alone.
 pub fn judge_item(
     alloc: Global,
+    kind: ReportKind,
     sheet: &Sheet,
     season: &Season,
     lines: &LineList,
@@ -25,9 +26,11 @@ pub fn judge_item(
     requires row { item.now.question_row < length (rows_of sheet.now) }
     requires room { item.now.from ≤ length lines.now }
     ensures { IfOk result (λ found. found ≡ option_map (line_number_at lines.now)
-        (unproved_of (tokens_of lines.now) (basis_of sheet.now season.now 0) item.now)) }
+        (unproved_of (tokens_of lines.now) (basis_of kind sheet.now season.now 0)
+        item.now)) }
 {
-    let report = Report::new(alloc, sheet, season, 0, lines)?;
+    let asked = AskedPart { kind, epoch: 0 };
+    let report = Report::new(alloc, sheet, season, asked, lines)?;
     match unproved_line(&report, *item)? {
         Some(at) => Ok(Some(lines.number(at))),
         None => Ok(None),

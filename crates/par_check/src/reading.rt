@@ -13,7 +13,7 @@ ghost use Rattle.par_check.specs.Places.{ReadsWhole, place_before};
 use crate::asks::{advance, season_before};
 use crate::item_rows::{row_at, rows_in_answer};
 use crate::places::{Place, Run, RunRead, Whole, read_both};
-use cert_check::{CheckStopAt, PartRead, Report};
+use cert_check::{AskedPart, CheckStopAt, PartRead, Report};
 use league_core::{Season, Sheet};
 
 /// Reads a run. One that goes on behind the last ask is read to the end.
@@ -59,13 +59,11 @@ fn read_ask(
     ensures reads { ReadsWhole whole.now at result }
     ensures ask { IfOk result (λ found. IsBehindAsk at.ask run.until_ask found.to.ask) }
 {
-    let report = Report::new(
-        whole.alloc,
-        whole.sheet,
-        season,
-        u64::from(epoch),
-        whole.lines,
-    )?;
+    let asked = AskedPart {
+        kind: whole.asks.kind,
+        epoch: u64::from(epoch),
+    };
+    let report = Report::new(whole.alloc, whole.sheet, season, asked, whole.lines)?;
     let until = last_row(whole.sheet, run, at);
     match read_rows(&report, at.row, until, at.next) {
         Ok(found) => Ok(RunRead {

@@ -26,7 +26,7 @@ use Rattle.port_core.specs.Contents.{Contents, with_lines}
 use Rattle.cert_text.specs.Lines.{claim_word}
 use Rattle.cert_text.specs.TreeLines.{marked_line, marked_lines}
 use Rattle.line_tokens.specs.declared.token.Token.{Token}
-use Rattle.line_tokens.specs.declared.token.Token.TheVariants.{Blank, Row, Proof, Unknown}
+use Rattle.line_tokens.specs.declared.token.Token.TheVariants.{Blank, Row, Proof, Near, Unknown}
 use Rattle.line_tokens.specs.Tokens.{token_of, counted_lines}
 use Rattle.line_tokens.specs.LineRanges.{is_reason_for, name_of_club}
 use Rattle.pool_save.specs.SavedTexts.{IsSavedNode, AreSavedTrees, saved_fields}
@@ -95,6 +95,9 @@ taken-counted sheet asked (Row fields ∷ tokens) state =
 taken-counted sheet asked (Proof line ∷ tokens) state =
     same-by (all_taken sheet asked (counted_lines tokens)) (all_taken sheet asked tokens)
     (save_taken sheet asked state (Proof line)) (taken-counted sheet asked tokens)
+taken-counted sheet asked (Near rival fresh ∷ tokens) state =
+    same-by (all_taken sheet asked (counted_lines tokens)) (all_taken sheet asked tokens)
+    (save_taken sheet asked state (Near rival fresh)) (taken-counted sheet asked tokens)
 taken-counted sheet asked (Unknown ∷ tokens) state =
     same-by (all_taken sheet asked (counted_lines tokens)) (all_taken sheet asked tokens)
     (save_taken sheet asked state Unknown) (taken-counted sheet asked tokens)

@@ -17,7 +17,7 @@ use Rattle.league_core.specs.search.Zones.{with_test, is_test_of, is_of_rival}
 use Rattle.league_core.specs.search.Trees.{Tree, open_leaf, lent_leaf, refuted_leaf, branch}
 use Rattle.league_core.specs.search.Trees.{NodesMeet, is_refuted}
 use Rattle.league_core.specs.search.Splits.{IsReasonTrue, AreReasonsTrue}
-use Rattle.league_core.specs.inside.Lending.{lent_count, all_opened}
+use Rattle.league_core.specs.inside.Lending.{lent_count}
 use Rattle.league_core.proofs.TreeLemmas.{NodesMeet-weaker}
 use Rattle.tree_reuse.specs.Asked.{IsAskedNode}
 use Rattle.tree_reuse.proofs.RetargetLemmas.{proper_asked}
@@ -25,10 +25,7 @@ use Rattle.cert_text.specs.Ranges.{is_in_range, is_test_in_range}
 use Rattle.cert_text.specs.TreeLines.{are_tests_for, marked_lines}
 use Rattle.cert_text.proofs.ProperLemmas.{proper_tests}
 use Rattle.cert_text.proofs.TreeRangeLemmas.{marked_lines_in_range}
-use Rattle.line_tokens.specs.declared.tree_line.TreeKind.TheVariants.{Spent}
-use Rattle.cert_check.specs.ExpectedItems.{Basis}
-use Rattle.cert_check.specs.inside.Grammar.{NodeFits}
-use Rattle.cert_check.proofs.AnswerLemmas.{spent_fits}
+use Rattle.cert_check.proofs.FitLemmas.{FitsAsLine, lines_fit}
 use Rattle.tree_arena.specs.declared.example.Example.{Example}
 use Rattle.branch_pool.specs.declared.question_state.QuestionState.{QuestionState}
 use Rattle.branch_pool.specs.inside.States.{PoolView, out_count}
@@ -95,22 +92,22 @@ seat_lines pool place seat sound found =
 
 -- ---- a tree that may be saved
 
--- a tree of tests that may be asked, whose nodes may stand in a report as lines, and of which no
--- leaf is lent
-saved_below : (basis : Basis) (question : Question) (tree : Tree) (zone : List Literal)
-    → lent_count tree ≡ 0 → NodesMeet (IsAskedNode basis.sheet question) zone tree
-    → NodesMeet (NodeFits true basis Spent question) zone (all_opened tree)
-    → NodesMeet (IsSavedNode basis.sheet question) zone tree
-saved_below basis question open_leaf zone none asked fits = (asked, refl)
-saved_below basis question (lent_leaf number) zone none asked fits = absurd (omega (arith, none))
-saved_below basis question (refuted_leaf reason fresh) zone none asked fits = (asked, fits.0)
-saved_below basis question (branch test fresh yes_half no_half) zone none asked fits =
-    let front = (and_parts (is_test_in_range test && is_test_of basis.sheet test)
+-- a tree of tests that may be asked, whose lines say what may be said of the question, and of which
+-- no leaf is lent
+saved_below : (sheet : Sheet) (question : Question) (tree : Tree) (zone : List Literal)
+    → lent_count tree ≡ 0 → NodesMeet (IsAskedNode sheet question) zone tree
+    → NodesMeet (FitsAsLine sheet question) zone tree
+    → NodesMeet (IsSavedNode sheet question) zone tree
+saved_below sheet question open_leaf zone none asked fits = (asked, refl)
+saved_below sheet question (lent_leaf number) zone none asked fits = absurd (omega (arith, none))
+saved_below sheet question (refuted_leaf reason fresh) zone none asked fits = (asked, fits)
+saved_below sheet question (branch test fresh yes_half no_half) zone none asked fits =
+    let front = (and_parts (is_test_in_range test && is_test_of sheet test)
     (not (is_of_rival question.club test)) fits.0).0 in (
-      (asked.0, (and_parts (is_test_in_range test) (is_test_of basis.sheet test) front).0),
-      saved_below basis question yes_half (with_test zone test true) (omega (arith, none)) asked.1
+      (asked.0, (and_parts (is_test_in_range test) (is_test_of sheet test) front).0),
+      saved_below sheet question yes_half (with_test zone test true) (omega (arith, none)) asked.1
           fits.1,
-      saved_below basis question no_half (with_test zone test false) (omega (arith, none)) asked.2
+      saved_below sheet question no_half (with_test zone test false) (omega (arith, none)) asked.2
           fits.2,
     )
 
@@ -118,12 +115,12 @@ seat_saved : (pool : PoolView) (place : ℕ) (seat : QuestionState) → IsSoundP
     → out_count pool.loans ≡ 0 → slice_get pool.seats place ≡ Some seat
     → IsSavedTree pool.sheet seat.question seat.tree
 seat_saved pool place seat sound home found =
-    let basis : Basis = record { sheet = pool.sheet; season = pool.season; epoch = 0 } in
-    saved_below basis seat.question seat.tree [] (none_lent_at pool place seat sound home found)
+    saved_below pool.sheet seat.question seat.tree [] (none_lent_at pool place seat sound home
+    found)
     (proper_asked pool.sheet pool.season seat.question [] seat.tree
     (seat_proper pool.sheet pool.season seat (seat_good pool place seat sound found)))
-    (spent_fits basis seat.question seat.tree [] refl (seat_tests pool place seat sound found)
-    (seat_reasons pool place seat sound found))
+    (lines_fit pool.sheet pool.season seat.question seat.tree [] refl
+    (seat_tests pool place seat sound found) (seat_reasons pool place seat sound found))
 
 -- ---- a tree that is worth it
 

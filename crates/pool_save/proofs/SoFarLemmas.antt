@@ -17,7 +17,7 @@ use Rattle.league_core.proofs.TreeLemmas.{NodesMeet-weaker}
 use Rattle.league_core.proofs.TreeListLemmas.{preorder-tree_of}
 use Rattle.tree_reuse.specs.Asked.{IsAskedNode, IsAskedTree}
 use Rattle.line_tokens.specs.declared.token.Token.{Token}
-use Rattle.line_tokens.specs.declared.token.Token.TheVariants.{Blank, Row, Proof, Unknown}
+use Rattle.line_tokens.specs.declared.token.Token.TheVariants.{Blank, Row, Proof, Near, Unknown}
 use Rattle.line_tokens.specs.declared.tree_line.TreeKind.TheVariants.{Spent}
 use Rattle.line_tokens.specs.LineRanges.{is_reason_for}
 use Rattle.line_tokens.specs.TreeNodes.{node_in}
@@ -204,6 +204,7 @@ pub taken_sound : (sheet : Sheet) (asked : List Question) (state : SaveState) (t
 taken_sound sheet asked state Blank sound = sound
 taken_sound sheet asked state (Row fields) sound =
     row_sound sheet asked state fields state.due sound
+taken_sound sheet asked state (Near rival fresh) sound = tt
 taken_sound sheet asked state Unknown sound = tt
 taken_sound sheet asked state (Proof line) sound =
     by (slice_get asked (length state.trees)) refl (node_in Spent line)
@@ -286,6 +287,7 @@ pub taken_few : (sheet : Sheet) (asked : List Question) (state : SaveState) (tok
 taken_few sheet asked state Blank = omega arith
 taken_few sheet asked state (Row fields) =
     row_few sheet asked state.trees fields state.due (length state.nodes)
+taken_few sheet asked state (Near rival fresh) = tt
 taken_few sheet asked state Unknown = tt
 taken_few sheet asked state (Proof line) =
     by (question_due asked state) (node_in Spent line)

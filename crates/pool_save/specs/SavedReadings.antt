@@ -22,7 +22,7 @@ use Rattle.fixture_sheet.specs.Fields.{field}
 use Rattle.cert_text.specs.Lines.{claim_word}
 use Rattle.cert_text.specs.TreeLines.{is_test_for}
 use Rattle.line_tokens.specs.declared.token.Token.{Token}
-use Rattle.line_tokens.specs.declared.token.Token.TheVariants.{Blank, Row, Proof, Unknown}
+use Rattle.line_tokens.specs.declared.token.Token.TheVariants.{Blank, Row, Proof, Near, Unknown}
 use Rattle.line_tokens.specs.declared.tree_line.TreeKind.TheVariants.{Spent}
 use Rattle.line_tokens.specs.Tokens.{token_of}
 use Rattle.line_tokens.specs.LineRanges.{name_of_club, is_reason_for}
@@ -149,6 +149,7 @@ save_taken sheet asked state Blank = goes_on state
 save_taken sheet asked state (Row fields) = row_taken sheet asked state.trees fields state.due
 save_taken sheet asked state (Proof line) =
     node_taken_if sheet (question_due asked state) state (node_in Spent line)
+save_taken sheet asked state (Near rival fresh) = bad
 save_taken sheet asked state Unknown = bad
 
 -- a reading of a saved text: what it gives, and the contents after what it read

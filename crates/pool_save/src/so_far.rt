@@ -99,6 +99,7 @@ impl SavedSoFar {
                 Some(node) => self.take_node(alloc, sheet, asked, node),
                 None => Ok(Taken::Bad),
             },
+            Token::Near { .. } => Ok(Taken::Bad),
             Token::Unknown => Ok(Taken::Bad),
         }
     }

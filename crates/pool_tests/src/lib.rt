@@ -23,6 +23,8 @@ mod held;
 #[cfg(test)]
 mod help;
 #[cfg(test)]
+mod near_leaves;
+#[cfg(test)]
 mod pairs;
 #[cfg(test)]
 mod plain;

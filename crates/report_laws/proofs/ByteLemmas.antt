@@ -10,10 +10,11 @@ use Rattle.report_laws.specs.inside.AcceptedBytes.{WrittenAnswersAreAccepted}
 use Rattle.report_laws.proofs.ReportLemmas.{report_of_answers}
 
 pub bytes_of_answers : WrittenAnswersAreAccepted
-bytes_of_answers sheet entries told unsettled position lines end answers are behind is =
-    let Told : List Token → Type 0 = λ tokens. AreAnswersWritten sheet entries
+bytes_of_answers kind sheet entries told unsettled position lines end answers are behind is =
+    let Told : List Token → Type 0 = λ tokens. AreAnswersWritten kind sheet entries
     (unplayed_season (length sheet.clubs) (length sheet.fixtures)) 0 tokens unsettled in
     ap Some
-    (report_of_answers (record { sheet = sheet; lines = map numbered lines; end = end }) entries
+    (report_of_answers
+    (record { kind = kind; sheet = sheet; lines = map numbered lines; end = end }) entries
     unsettled
     (subst Told (sym (written_back told position lines end are behind is)) answers))

@@ -1,6 +1,6 @@
--- An item whose lines have no bit of a set past its width shows what the item shows.
-use Rattle.std.proofs.Common.{◌≡◌, ℕ, ◌+◌, Bool, true, false, ◌&&◌, List, [], ◌∷◌, ◌++◌}
-use Rattle.std.proofs.Common.{map, Option, Some, None, refl, ap, ap₂, ◌∙◌}
+-- A word whose lines have no bit of a set past its width is shown as before.
+use Rattle.std.proofs.Common.{◌≡◌, ℕ, ◌+◌, List, [], ◌∷◌, ◌++◌, map, Option, Some, None, refl, ap}
+use Rattle.std.proofs.Common.{ap₂, ◌∙◌, inl, inr}
 use Rattle.std.proofs.lemmas.List.{map-append}
 use Rattle.league_core.specs.declared.sheet.Sheet.{Sheet}
 use Rattle.league_core.specs.declared.season.Score.{Score}
@@ -8,56 +8,25 @@ use Rattle.league_core.specs.declared.question.Claim.TheVariants.{Inside, Outsid
 use Rattle.league_core.specs.declared.question.Question.{Question}
 use Rattle.league_core.specs.game.Results.{Results}
 use Rattle.league_core.specs.game.Questions.{full_question}
-use Rattle.league_core.specs.search.Trees.{Tree, open_leaf, lent_leaf, refuted_leaf, branch}
 use Rattle.cert_text.specs.declared.proof_line.ProofLine.{ProofLine}
 use Rattle.cert_text.specs.declared.proof_line.ProofLine.TheVariants as line
 use Rattle.cert_text.specs.ExampleLines.{IsExampleInLines, score_line_if}
 use Rattle.cert_text.specs.ExampleLines.{score_lines, lots_line}
-use Rattle.cert_check.proofs.KeptLemmas.{kept_line, kept_tree}
-use Rattle.cert_check.proofs.KeptLemmas.{plain_lines-kept, marked_lines-kept}
-use Rattle.cert_check.proofs.KeptTreeLemmas.{refutation-kept, spent-kept}
-use Rattle.answer_rows.specs.NewTrees.{is_all_new}
-use Rattle.answer_rows.specs.declared.word.Word.{Word}
-use Rattle.answer_rows.specs.declared.word.Word.TheVariants.{Clinched, Lost, Possible, Unsettled}
-use Rattle.answer_rows.specs.Items.{IsItemShown, RefutesIfAsked, ShowsPart, ShowsSpentNow}
+use Rattle.wide_lines.specs.declared.wide_line.WideLine.{WideLine}
+use Rattle.wide_lines.specs.declared.wide_line.WideLine.TheVariants.{Plain}
+use Rattle.cert_check.specs.ExpectedItems.{Basis}
+use Rattle.cert_check.specs.declared.expected.RowWord.{RowWord}
+use Rattle.cert_check.specs.declared.expected.RowWord.TheVariants.{Clinched, Lost, Possible}
+use Rattle.cert_check.specs.declared.expected.RowWord.TheVariants.{Unsettled}
+use Rattle.cert_check.specs.inside.Answers.{ShowsWord, ShowsSpentHeaded, ShowsExampleOf}
+use Rattle.cert_check.specs.inside.Answers.{ShowsRefutedHeaded}
+use Rattle.cert_check.proofs.KeptLemmas.{kept_line}
+use Rattle.cert_check.proofs.KeptWideLemmas.{kept_wide_line, kept_wide_tree, plain_wide-kept}
+use Rattle.cert_check.proofs.KeptWideLemmas.{plain_wide_lines-kept, marked_wide_lines-kept}
+use Rattle.cert_check.proofs.KeptWideLemmas.{wide_refutation-kept, wide_spent-kept}
+use Rattle.cert_check.proofs.KeptWideLemmas.{may_have_leaves-kept}
 
--- ---- new trees
-
-new-kept : (tree : Tree) → is_all_new (kept_tree tree) ≡ is_all_new tree
-new-kept open_leaf = refl
-new-kept (lent_leaf number) = refl
-new-kept (refuted_leaf reason fresh) = refl
-new-kept (branch test fresh yes_half no_half) =
-    ap₂ (λ (yes no : Bool). fresh && yes && no) (new-kept yes_half) (new-kept no_half)
-
--- ---- lines that show something
-
-refutes-kept : (sheet : Sheet) (season : Results) (question : Question) (lines : List ProofLine)
-    → RefutesIfAsked true sheet season question lines
-    → RefutesIfAsked true sheet season question (map kept_line lines)
-refutes-kept sheet season question lines is =
-    let tree = is.1.0 in (
-      map kept_line is.0,
-      (
-        kept_tree tree,
-        refutation-kept sheet season question tree is.1.1,
-        ap (map kept_line) is.1.2 ∙ plain_lines-kept tree,
-      ),
-      ap (map kept_line) is.2,
-    )
-
-spends-kept : (sheet : Sheet) (season : Results) (question : Question) (lines : List ProofLine)
-    → ShowsSpentNow sheet season question lines
-    → ShowsSpentNow sheet season question (map kept_line lines)
-spends-kept sheet season question lines is =
-    let tree = is.0 in (
-      kept_tree tree,
-      spent-kept sheet season question sheet.budget tree is.1,
-      new-kept tree ∙ is.2,
-      ap (map kept_line) is.3
-          ∙ ap (λ (rest : List ProofLine). line.Spent question.claim ∷ rest)
-          (marked_lines-kept tree),
-    )
+-- ---- examples
 
 scores-kept : (fixture : ℕ) (season finish : List (Option Score))
     → map kept_line (score_lines fixture season finish) ≡ score_lines fixture season finish
@@ -90,36 +59,79 @@ example-kept sheet season question lines is =
           (scores-kept 0 season.scores is.0.scores)),
     )
 
-part-kept : (sheet : Sheet) (season : Results) (question : Question) (is_spent : Bool)
-    (lines : List ProofLine) → ShowsPart sheet season question is_spent lines
-    → ShowsPart sheet season question is_spent (map kept_line lines)
-part-kept sheet season question true lines is = spends-kept sheet season question lines is
-part-kept sheet season question false lines is = example-kept sheet season question lines is
+-- ---- lines that show something
 
--- an item shows the same
-pub item-kept : (sheet : Sheet) (season : Results) (number club : ℕ) (said : Word)
-    (lines : List ProofLine) → IsItemShown true sheet season number club said lines
-    → IsItemShown true sheet season number club said (map kept_line lines)
-item-kept sheet season number club Clinched lines is =
-    (is.0, refutes-kept sheet season (full_question club number Outside) lines is.1)
-item-kept sheet season number club Lost lines is =
-    (is.0, refutes-kept sheet season (full_question club number Inside) lines is.1)
-item-kept sheet season number club Possible lines is = (
-  map kept_line is.0,
-  map kept_line is.1,
-  ap (map kept_line) is.2 ∙ map-append kept_line is.0 is.1,
-  example-kept sheet season (full_question club number Inside) is.0 is.3,
-  example-kept sheet season (full_question club number Outside) is.1 is.4,
-)
-item-kept sheet season number club Unsettled lines is = (
-  is.0,
-  is.1,
-  is.2,
-  (
-    map kept_line is.3.0,
-    map kept_line is.3.1,
-    ap (map kept_line) is.3.2 ∙ map-append kept_line is.3.0 is.3.1,
-    part-kept sheet season (full_question club number Inside) is.0 is.3.0 is.3.3,
-    part-kept sheet season (full_question club number Outside) is.1 is.3.1 is.3.4,
-  ),
-)
+module _ (basis : Basis) where
+  shown_example-kept : (question : Question) (lines : List WideLine)
+      → ShowsExampleOf basis question lines
+      → ShowsExampleOf basis question (map kept_wide_line lines)
+  shown_example-kept question lines is = (
+    map kept_line is.0,
+    example-kept basis.sheet basis.season question is.0 is.1,
+    ap (map kept_wide_line) is.2 ∙ plain_wide-kept is.0,
+  )
+
+  refuted-kept : (question : Question) (lines : List WideLine)
+      → ShowsRefutedHeaded basis question lines
+      → ShowsRefutedHeaded basis question (map kept_wide_line lines)
+  refuted-kept question lines is = (
+    kept_wide_tree is.0,
+    wide_refutation-kept basis.sheet basis.season question is.0 is.1,
+    may_have_leaves-kept basis.kind is.0 ∙ is.2,
+    ap (map kept_wide_line) is.3
+        ∙ ap (λ (rest : List WideLine). Plain (line.Tree question.claim) ∷ rest)
+        (plain_wide_lines-kept is.0),
+  )
+
+  spent-kept : (question : Question) (lines : List WideLine)
+      → ShowsSpentHeaded basis question lines
+      → ShowsSpentHeaded basis question (map kept_wide_line lines)
+  spent-kept question lines is = (
+    kept_wide_tree is.0,
+    wide_spent-kept basis.sheet basis.season question basis.sheet.budget is.0 is.1,
+    may_have_leaves-kept basis.kind is.0 ∙ is.2,
+    ap (map kept_wide_line) is.3
+        ∙ ap (λ (rest : List WideLine). Plain (line.Spent question.claim) ∷ rest)
+        (marked_wide_lines-kept is.0),
+  )
+
+  both-kept : (lines inside outside : List WideLine) → lines ≡ inside ++ outside
+      → map kept_wide_line lines ≡ map kept_wide_line inside ++ map kept_wide_line outside
+  both-kept lines inside outside is =
+      ap (map kept_wide_line) is ∙ map-append kept_wide_line inside outside
+
+  -- the word is shown
+  pub word-kept : (number club : ℕ) (said : RowWord) (lines : List WideLine)
+      → ShowsWord basis number club said lines
+      → ShowsWord basis number club said (map kept_wide_line lines)
+  word-kept number club Clinched lines is =
+      refuted-kept (full_question club number Outside) lines is
+  word-kept number club Lost lines is =
+      refuted-kept (full_question club number Inside) lines is
+  word-kept number club Possible lines is = (
+    map kept_wide_line is.0,
+    map kept_wide_line is.1,
+    shown_example-kept (full_question club number Inside) is.0 is.2,
+    shown_example-kept (full_question club number Outside) is.1 is.3,
+    both-kept lines is.0 is.1 is.4,
+  )
+  word-kept number club Unsettled lines is =
+      let inside = full_question club number Inside in
+      let outside = full_question club number Outside in (
+        map kept_wide_line is.0,
+        map kept_wide_line is.1,
+        elim is.2 [
+          | inl two ↦ inl (
+            shown_example-kept inside is.0 two.0,
+            spent-kept outside is.1 two.1,
+          )
+          | inr two ↦ inr (
+            spent-kept inside is.0 two.0,
+            elim two.1 [
+              | inl one ↦ inl (shown_example-kept outside is.1 one)
+              | inr one ↦ inr (spent-kept outside is.1 one)
+            ],
+          )
+        ],
+        both-kept lines is.0 is.1 is.3,
+      )

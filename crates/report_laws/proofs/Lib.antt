@@ -2,6 +2,7 @@
 -- after these: items as a type holds their lines, that the lines of an answer are short and read as
 -- they were written, what an input and its feed give before the record `proofs`, and all of it
 -- together.
+pub mod ShownLemmas
 pub mod ItemLemmas
 pub mod ReportLemmas
 pub mod ByteLemmas
@@ -12,8 +13,10 @@ pub mod RowSizeLemmas
 pub mod LineReadLemmas
 pub mod PutLemmas
 pub mod AnswerTextLemmas
+pub mod AskTextLemmas
 pub mod CourseTextLemmas
 pub mod FrontLemmas
 pub mod FeedProofsLemmas
 pub mod KnownEndLemmas
+pub mod GivenReportLemmas
 pub mod AcceptedTextLemmas

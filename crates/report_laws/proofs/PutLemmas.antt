@@ -1,9 +1,10 @@
 -- Lines that an answer puts into a report: each is read as what it was, and none is too long; so
 -- their bytes are read to the end, as these lines.
-use Rattle.std.proofs.Common.{◌≡◌, ◌≢◌, ℕ, ◌+◌, ◌<◌, ◌≤◌, ◌^◌, true, ◌&&◌, List, [], ◌∷◌, ◌++◌, map}
+use Rattle.std.proofs.Common.{◌≡◌, ◌≢◌, ℕ, ◌+◌, ◌<◌, ◌≤◌, ◌^◌, Bool, true, false, ◌&&◌, List, []}
+use Rattle.std.proofs.Common.{◌∷◌, ◌++◌, map}
 use Rattle.std.proofs.Common.{length, Result, Ok, refl, ap, ◌∙◌, append_assoc, inl, inr, arith}
 use Rattle.std.specs.Prelude.{decimal}
-use Rattle.std.specs.List.{flat_map}
+use Rattle.std.specs.List.{flat_map, list_all}
 use Rattle.std.proofs.lemmas.Bool.{and_parts, and_from}
 use Rattle.std.proofs.lemmas.List.{length-append}
 use Rattle.csv.specs.Writing.{default_writer, row_body}
@@ -14,11 +15,16 @@ use Rattle.port_core.specs.Contents.{Contents, Position, contents_from, content_
 use Rattle.port_core.specs.Contents.{number_at, position_after}
 use Rattle.cert_text.specs.declared.proof_line.ProofLine.{ProofLine}
 use Rattle.cert_text.specs.Lines.{text_of_proof_line}
-use Rattle.cert_text.specs.Ranges.{is_in_range}
+use Rattle.cert_text.specs.Ranges.{is_club_number, is_in_range}
 use Rattle.cert_text.specs.inside.Widths.{is_line_kept}
 use Rattle.cert_text.proofs.PrintedLemmas.{line_printed}
+use Rattle.wide_lines.specs.declared.wide_line.WideLine.{WideLine}
+use Rattle.wide_lines.specs.declared.wide_line.WideLine.TheVariants as wide
+use Rattle.wide_lines.specs.WideTexts.{text_of_near}
+use Rattle.wide_lines.proofs.NearTextLemmas.{near_printed}
 use Rattle.line_tokens.specs.declared.token.Token.{Token}
-use Rattle.line_tokens.specs.declared.token.Token.TheVariants.{Row, Proof}
+use Rattle.line_tokens.specs.declared.token.Token.TheVariants.{Row, Proof, Near}
+use Rattle.line_tokens.specs.Tokens.{token_of_wide}
 use Rattle.cert_check.specs.declared.expected.RowWord.{RowWord}
 use Rattle.cert_check.specs.declared.expected.RowWord.TheVariants.{Clinched, Lost, Possible}
 use Rattle.cert_check.specs.declared.expected.RowWord.TheVariants.{Unsettled}
@@ -28,10 +34,12 @@ use Rattle.cert_check.specs.Outcomes.{numbered}
 use Rattle.cert_check.specs.inside.WrittenReports.{are_within_line, written, IsLineRead, AreRead}
 use Rattle.cert_check.proofs.RowBackLemmas.{body_within}
 use Rattle.cert_check.proofs.WrittenLemmas.{written_back}
-use Rattle.report_laws.proofs.BriefLemmas.{is_brief, may_show}
+use Rattle.cert_check.proofs.KeptLemmas.{line-kept, kept_line}
+use Rattle.cert_check.proofs.KeptWideLemmas.{kept_wide_line}
+use Rattle.report_laws.proofs.BriefLemmas.{is_brief, is_wide_brief, may_show}
 use Rattle.report_laws.proofs.LineReadLemmas.{contents-text, ending-with}
 use Rattle.report_laws.proofs.RowSizeLemmas.{ask_row-size, verdict_row-size}
-use Rattle.report_laws.proofs.SizeLemmas.{line-size}
+use Rattle.report_laws.proofs.SizeLemmas.{line-size, near-size}
 use Rattle.cert_check.proofs.WithinLemmas.{IsRowName, no_feed, number_bytes, printed_bytes}
 
 -- a line that an answer may have: bytes without LF, and an LF, no more than a line has
@@ -96,7 +104,7 @@ verdict-put number name said small named =
     word_within Unsettled = refl
 
 -- a proof line that is brief, as a type holds it
-pub proof-put : (shown : ProofLine) → is_brief shown ≡ true → is_line_kept shown ≡ true
+proof-put : (shown : ProofLine) → is_brief shown ≡ true → is_line_kept shown ≡ true
     → IsLinePut (Proof shown)
 proof-put shown brief kept =
     let within = (and_parts (is_in_range shown) (may_show shown) brief).0 in
@@ -108,6 +116,36 @@ proof-put shown brief kept =
       none = no_feed text (printed_bytes text (line_printed shown within));
       short = omega (arith, line-size shown brief, length-append text (10 ∷ []));
     }
+
+-- a near leaf
+near-put : (fresh : Bool) (rival : ℕ) → is_club_number rival ≡ true
+    → IsLinePut (Near rival fresh)
+near-put fresh rival known =
+    let text = text_of_near fresh rival in
+    record {
+      read = known;
+      body = text;
+      bytes = refl;
+      none = no_feed text (printed_bytes text (near_printed fresh rival known));
+      short = omega (arith, near-size fresh rival known, length-append text (10 ∷ []));
+    }
+
+-- wide lines that are brief, as a type holds them
+wide-put : (shown : WideLine) → is_wide_brief (kept_wide_line shown) ≡ true
+    → IsLinePut (token_of_wide (kept_wide_line shown))
+wide-put (wide.Plain shown) brief = proof-put (kept_line shown) brief (line-kept shown)
+wide-put (wide.Near rival) brief =
+    near-put false rival (and_parts (is_club_number rival) true brief).0
+wide-put (wide.NewNear rival) brief =
+    near-put true rival (and_parts (is_club_number rival) true brief).0
+
+pub lines-put : (lines : List WideLine) → list_all is_wide_brief (map kept_wide_line lines) ≡ true
+    → ArePut (map token_of_wide (map kept_wide_line lines))
+lines-put [] all = tt
+lines-put (shown ∷ lines) all =
+    let parts = and_parts (is_wide_brief (kept_wide_line shown))
+    (list_all is_wide_brief (map kept_wide_line lines)) all in
+    (wide-put shown parts.0, lines-put lines parts.1)
 
 -- ---- what their bytes give
 

@@ -13,6 +13,7 @@ use Rattle.line_tokens.specs.Tokens.{counted_lines}
 use Rattle.cert_check.specs.LineLists.{tokens_of}
 use Rattle.cert_check.specs.LineGrammars.{Ending, whole_at}
 use Rattle.cert_check.specs.Machine.{ending_of, part_of_ask}
+use Rattle.cert_check.specs.declared.expected.ReportKind.{ReportKind}
 use Rattle.cert_check.specs.Machine.{basis_of}
 use Rattle.cert_check.specs.declared.outcome.CheckOutcome.TheVariants.{Accepted}
 use Rattle.cert_check.specs.Outcomes.{ReportInput, ReportProgressView, first_progress, outcome_by}
@@ -20,38 +21,38 @@ use Rattle.cert_check.specs.Outcomes.{outcome_from, progress_after, progress_wit
 use Rattle.cert_check.proofs.OutcomeLemmas.{end-accepted}
 use Rattle.report_laws.specs.inside.AcceptedAnswers.{answer_written, unsettled_count}
 use Rattle.report_laws.specs.inside.AcceptedReports.{AreAnswersWritten, rows_written}
-use Rattle.report_laws.proofs.ItemLemmas.{answer_of_verdicts}
+use Rattle.report_laws.proofs.ItemLemmas.{answer_of_findings}
 
 -- the lines are read as the whole part of an ask, whatever follows them, with so many unsettled
 -- rows
-abbrev pub IsWholePart : Sheet → Results → ℕ → List Token → ℕ → Type 0
-IsWholePart sheet season epoch part unsettled =
+abbrev pub IsWholePart : ReportKind → Sheet → Results → ℕ → List Token → ℕ → Type 0
+IsWholePart kind sheet season epoch part unsettled =
     (rest : List Token) (from : ℕ)
-    → ending_of (basis_of sheet season epoch) (part ++ rest) (part_of_ask sheet) from 0
+    → ending_of (basis_of kind sheet season epoch) (part ++ rest) (part_of_ask sheet) from 0
     ≡ whole_at (from + length part) unsettled
 
 -- the lines are such parts for the asks among these entries, in their order, each of its own season
 -- and number of events
-abbrev pub ArePartsRead : Sheet → List Entry → Results → ℕ → List Token → ℕ → Type 0
-ArePartsRead sheet [] season epoch lines unsettled = (lines ≡ []) × (unsettled ≡ 0)
-ArePartsRead sheet (Change event ∷ entries) season epoch lines unsettled =
-    ArePartsRead sheet entries (season_with season (Change event)) (count_with epoch (Change event))
-    lines unsettled
-ArePartsRead sheet (Ask ∷ entries) season epoch lines unsettled =
+abbrev pub ArePartsRead : ReportKind → Sheet → List Entry → Results → ℕ → List Token → ℕ → Type 0
+ArePartsRead kind sheet [] season epoch lines unsettled = (lines ≡ []) × (unsettled ≡ 0)
+ArePartsRead kind sheet (Change event ∷ entries) season epoch lines unsettled =
+    ArePartsRead kind sheet entries (season_with season (Change event))
+    (count_with epoch (Change event)) lines unsettled
+ArePartsRead kind sheet (Ask ∷ entries) season epoch lines unsettled =
     (part : List Token) × (here : ℕ) × (later : List Token) × (others : ℕ)
-    × IsWholePart sheet season epoch part here
+    × IsWholePart kind sheet season epoch part here
     × (lines ≡ part ++ later) × (unsettled ≡ here + others)
-    × ArePartsRead sheet entries season epoch later others
-ArePartsRead sheet (Proofs ∷ entries) season epoch lines unsettled =
-    ArePartsRead sheet entries season epoch lines unsettled
-ArePartsRead sheet (End ∷ entries) season epoch lines unsettled =
-    ArePartsRead sheet entries season epoch lines unsettled
+    × ArePartsRead kind sheet entries season epoch later others
+ArePartsRead kind sheet (Proofs ∷ entries) season epoch lines unsettled =
+    ArePartsRead kind sheet entries season epoch lines unsettled
+ArePartsRead kind sheet (End ∷ entries) season epoch lines unsettled =
+    ArePartsRead kind sheet entries season epoch lines unsettled
 
 -- a report is accepted from here on, if the lines that are left are such parts
 parts_from : (report : ReportInput) (entries : List Entry) (standing : ReportProgressView)
     (lines : List Token) (unsettled : ℕ)
     → drop standing.at (tokens_of report.lines) ≡ lines
-    → ArePartsRead report.sheet entries standing.season standing.epoch lines unsettled
+    → ArePartsRead report.kind report.sheet entries standing.season standing.epoch lines unsettled
     → outcome_from report entries standing
     ≡ Accepted (standing.rows
     + rows_written (length report.sheet.lines * length report.sheet.clubs) entries)
@@ -67,7 +68,7 @@ parts_from report [] standing lines unsettled left told =
 parts_from report (Change event ∷ entries) standing lines unsettled left told =
     parts_from report entries (progress_with standing (Change event)) lines unsettled left told
 parts_from report (Ask ∷ entries) standing lines unsettled left told =
-    let basis = basis_of report.sheet standing.season standing.epoch in
+    let basis = basis_of report.kind report.sheet standing.season standing.epoch in
     let part = told.0 in
     let next = progress_after report.sheet standing (standing.at + length part) told.1 in
     let each = length report.sheet.lines * length report.sheet.clubs in
@@ -96,7 +97,7 @@ parts_from report (End ∷ entries) standing lines unsettled left told =
 
 -- a report of parts
 pub report_of_parts : (report : ReportInput) (entries : List Entry) (unsettled : ℕ)
-    → ArePartsRead report.sheet entries (first_progress report.sheet).season 0
+    → ArePartsRead report.kind report.sheet entries (first_progress report.sheet).season 0
     (tokens_of report.lines) unsettled
     → outcome_from report entries (first_progress report.sheet)
     ≡ Accepted (rows_written (length report.sheet.lines * length report.sheet.clubs) entries)
@@ -112,37 +113,37 @@ report_of_parts report entries unsettled told =
     nothing n = omega arith
 
 -- answers are such parts
-answers_are_parts : (sheet : Sheet) (entries : List Entry) (season : Results) (epoch : ℕ)
-    (lines : List Token) (unsettled : ℕ)
-    → AreAnswersWritten sheet entries season epoch lines unsettled
-    → ArePartsRead sheet entries season epoch lines unsettled
-answers_are_parts sheet [] season epoch lines unsettled told = told
-answers_are_parts sheet (Change event ∷ entries) season epoch lines unsettled told =
-    answers_are_parts sheet entries (season_with season (Change event))
+answers_are_parts : (kind : ReportKind) (sheet : Sheet) (entries : List Entry) (season : Results)
+    (epoch : ℕ) (lines : List Token) (unsettled : ℕ)
+    → AreAnswersWritten kind sheet entries season epoch lines unsettled
+    → ArePartsRead kind sheet entries season epoch lines unsettled
+answers_are_parts kind sheet [] season epoch lines unsettled told = told
+answers_are_parts kind sheet (Change event ∷ entries) season epoch lines unsettled told =
+    answers_are_parts kind sheet entries (season_with season (Change event))
     (count_with epoch (Change event)) lines unsettled told
-answers_are_parts sheet (Ask ∷ entries) season epoch lines unsettled told = (
-  answer_written sheet season epoch told.0,
-  unsettled_count told.0,
+answers_are_parts kind sheet (Ask ∷ entries) season epoch lines unsettled told = (
+  answer_written kind sheet season epoch told.0,
+  unsettled_count kind told.0,
   told.1,
   told.2,
-  (λ rest from. answer_of_verdicts sheet season epoch told.0 rest from told.3),
+  (λ rest from. answer_of_findings kind sheet season epoch told.0 rest from told.3),
   told.4,
   told.5,
-  answers_are_parts sheet entries season epoch told.1 told.2 told.6,
+  answers_are_parts kind sheet entries season epoch told.1 told.2 told.6,
 )
-answers_are_parts sheet (Proofs ∷ entries) season epoch lines unsettled told =
-    answers_are_parts sheet entries season epoch lines unsettled told
-answers_are_parts sheet (End ∷ entries) season epoch lines unsettled told =
-    answers_are_parts sheet entries season epoch lines unsettled told
+answers_are_parts kind sheet (Proofs ∷ entries) season epoch lines unsettled told =
+    answers_are_parts kind sheet entries season epoch lines unsettled told
+answers_are_parts kind sheet (End ∷ entries) season epoch lines unsettled told =
+    answers_are_parts kind sheet entries season epoch lines unsettled told
 
 -- a report of answers
 pub report_of_answers : (report : ReportInput) (entries : List Entry) (unsettled : ℕ)
-    → AreAnswersWritten report.sheet entries (first_progress report.sheet).season 0
+    → AreAnswersWritten report.kind report.sheet entries (first_progress report.sheet).season 0
     (tokens_of report.lines) unsettled
     → outcome_from report entries (first_progress report.sheet)
     ≡ Accepted (rows_written (length report.sheet.lines * length report.sheet.clubs) entries)
     unsettled
 report_of_answers report entries unsettled told =
     report_of_parts report entries unsettled
-    (answers_are_parts report.sheet entries (first_progress report.sheet).season 0
+    (answers_are_parts report.kind report.sheet entries (first_progress report.sheet).season 0
     (tokens_of report.lines) unsettled told)

@@ -1,4 +1,4 @@
--- Proof lines that are brief are no longer than a line may be.
+-- Lines that are brief are no longer than a line may be.
 use Rattle.std.proofs.Common.{◌≡◌, ℕ, ◌+◌, ◌*◌, ◌≤◌, Bool, true, false, ◌==◌, nat_le, List, [], ◌∷◌}
 use Rattle.std.proofs.Common.{map, length, refl, arith}
 use Rattle.std.specs.Prelude.{decimal}
@@ -23,6 +23,7 @@ use Rattle.cert_text.specs.Lines.{test_parts, reason_parts, parts_of, array_text
 use Rattle.cert_text.specs.Lines.{text_of_proof_line}
 use Rattle.cert_text.specs.Ranges.{is_club_number, is_in_range}
 use Rattle.cert_text.proofs.PrintedLemmas.{is_small_part, small_line}
+use Rattle.wide_lines.specs.WideTexts.{near_parts, text_of_near}
 use Rattle.report_laws.proofs.BriefLemmas.{is_brief, may_show}
 use Rattle.league_core.proofs.plain.Texts.{decimal-size}
 
@@ -171,3 +172,18 @@ line-size shown brief =
     let both = and_parts (is_in_range shown) (may_show shown) brief in
     let size = parts-size (parts_of shown) (small_line shown both.0) (line-slim shown both.1) in
     omega (arith, size, parts-few shown, array-size (map part_text (parts_of shown)))
+
+-- so is a near leaf
+pub near-size : (fresh : Bool) (rival : ℕ) → is_club_number rival ≡ true
+    → length (text_of_near fresh rival) ≤ 1000
+near-size fresh rival known =
+    let below = ltb-true rival 24 known in
+    let number = decimal-size (number_in_text rival) (omega (arith, below)) in
+    let size = array-size (map part_text (near_parts fresh rival)) in
+    by_word fresh number size
+  where
+    by_word : (fresh : Bool) → length (decimal (number_in_text rival)) ≤ 4
+        → length (text_of_near fresh rival) ≤ 2 + sizes (map part_text (near_parts fresh rival))
+        → length (text_of_near fresh rival) ≤ 1000
+    by_word true number size = omega (arith, number, size)
+    by_word false number size = omega (arith, number, size)

@@ -1,5 +1,5 @@
-//! What joins the search and the checker: an answer of the mode `verdicts` with proofs is a part of
-//! a report that the checker accepts.
+//! What joins the search and the checker: an answer with proofs, of the mode `verdicts` or
+//! `decide`, is a part of a report that the checker accepts.
 //!
 //! The statements are in `specs/inside/AcceptedAnswers.antt`, of one answer,
 //! `specs/inside/AcceptedReports.antt`, of whole reports, `specs/inside/AcceptedBytes.antt`, of

@@ -7,7 +7,7 @@ ghost use Rattle.league_core.specs.game.Seasons.{IsEventOf, IsLeague, unplayed_s
 ghost use Rattle.league_core.specs.game.Sheets.{IsWithinLimits};
 ghost use Rattle.par_check.specs.Cuts.{AreAsks, IsItemIn};
 
-use cert_check::{CheckStop, LineList};
+use cert_check::{CheckStop, LineList, ReportKind};
 use league_core::{Event, OutOfMemory, Score, Season, Sheet};
 use par_check::{Asks, Cut, Item, cut, judge_item};
 use sample_leagues::{Sample, sample_of};
@@ -91,7 +91,8 @@ fn two_asks(alloc: Global, sheet: &Sheet, event: Event) -> Result<Asks, OutOfMem
 {
     let log = vec![in alloc; event]?;
     let epochs = vec![in alloc; 0, 1]?;
-    Ok(Asks { log, epochs })
+    let kind = ReportKind::Plain;
+    Ok(Asks { kind, log, epochs })
 }
 
 fn asks_of(alloc: Global, sheet: &Sheet) -> Result<Asks, Fail>
@@ -133,7 +134,14 @@ fn unproved(
     requires within { All (IsItemIn sheet.now 2 (length lines.now)) items.now }
 {
     match items.get(at) {
-        Some(item) => Ok(judge_item(alloc, sheet, season, lines, item)?),
+        Some(item) => Ok(judge_item(
+            alloc,
+            ReportKind::Plain,
+            sheet,
+            season,
+            lines,
+            item,
+        )?),
         None => Err("so few items".into()),
     }
 }

@@ -13,3 +13,5 @@ mod readings;
 mod rows;
 #[cfg(test)]
 mod smoke;
+#[cfg(test)]
+mod wide;

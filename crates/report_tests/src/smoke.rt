@@ -5,7 +5,7 @@ ghost use Rattle.std.specs.Prelude.{IsTrue};
 ghost use Rattle.league_core.specs.game.Questions.{IsQuestionOf};
 ghost use Rattle.league_core.specs.game.Seasons.{IsLeague};
 
-use cert_check::{Accepted, LineList, check};
+use cert_check::{Accepted, AskedPart, LineList, ReportKind, check};
 use check_bounds::holds_in;
 use league_core::{Claim, Question, Reason, Sheet};
 use sample_leagues::{Sample, sample_of};
@@ -19,7 +19,11 @@ const LEAGUE: &[u8] =
 fn one_row_is_accepted(alloc: Global, sample: &Sample, lines: &LineList) -> bool
     requires { IsLeague sample.now.sheet sample.now.season }
 {
-    let found = check(alloc, &sample.sheet, &sample.season, 0, lines, 0);
+    let asked = AskedPart {
+        kind: ReportKind::Plain,
+        epoch: 0,
+    };
+    let found = check(alloc, &sample.sheet, &sample.season, asked, lines, 0);
     let (next, rows, unsettled) = (1, 0, 0);
     found
         == Ok(Accepted {

@@ -1,55 +1,74 @@
--- An answer with proofs, over the definitions of proof lines alone, and that it is accepted. A
--- crate that makes such answers has only to name its own as these.
-use Rattle.std.specs.Prelude.{◌≡◌, ◌⊎◌, ℕ, ◌+◌, List, [], ◌∷◌, ◌++◌, length, map}
+-- An answer with proofs, over the definitions of wide lines alone, and that it is accepted. A crate
+-- that makes such answers has only to name its own as these.
+use Rattle.std.specs.Prelude.{◌≡◌, ◌⊎◌, ℕ, ◌+◌, Bool, true, ◌&&◌, IsTrue, List, [], ◌∷◌, ◌++◌}
+use Rattle.std.specs.Prelude.{length, map}
 use Rattle.std.specs.List.{flat_map}
 use Rattle.league_core.specs.declared.question.Claim.TheVariants.{Inside, Outside}
 use Rattle.league_core.specs.declared.question.Question.{Question}
 use Rattle.league_core.specs.game.Questions.{full_question}
 use Rattle.cert_text.specs.declared.proof_line.ProofLine.{ProofLine}
-use Rattle.cert_text.specs.TreeLines.{ShowsRefuted, ShowsSpent, with_tree_head, with_spent_head}
 use Rattle.cert_text.specs.ExampleLines.{IsExampleInLines}
+use Rattle.wide_lines.specs.declared.wide_line.WideLine.{WideLine}
+use Rattle.wide_lines.specs.declared.wide_line.WideLine.TheVariants.{Plain}
+use Rattle.wide_lines.specs.WideTrees.{WideTree, open_leaf, refuted_leaf, branch}
+use Rattle.wide_lines.specs.WideTreeLines.{IsWideRefutation, IsWideSpentTree, plain_wide_lines}
+use Rattle.wide_lines.specs.WideTreeLines.{marked_wide_lines, with_wide_tree_head}
+use Rattle.wide_lines.specs.WideTreeLines.{with_wide_spent_head}
 use Rattle.line_tokens.specs.declared.token.Token.{Token}
-use Rattle.line_tokens.specs.declared.token.Token.TheVariants.{Row, Proof}
+use Rattle.line_tokens.specs.declared.token.Token.TheVariants.{Row}
+use Rattle.line_tokens.specs.Tokens.{token_of_wide}
 use Rattle.cert_check.specs.declared.expected.RowWord.{RowWord}
 use Rattle.cert_check.specs.declared.expected.RowWord.TheVariants.{Clinched, Lost, Possible}
 use Rattle.cert_check.specs.declared.expected.RowWord.TheVariants.{Unsettled}
+use Rattle.cert_check.specs.declared.expected.ReportKind.{ReportKind}
 use Rattle.cert_check.specs.ExpectedItems.{Basis, Expected, verdict_row, ask_fields, verdict_fields}
+use Rattle.cert_check.specs.ExpectedItems.{may_have}
 use Rattle.line_tokens.specs.LineRanges.{name_of_club}
 use Rattle.cert_check.specs.LineGrammars.{whole_at}
 use Rattle.cert_check.specs.Machine.{ending_of, rows_of, part_of_ask}
 use Rattle.cert_check.specs.inside.Calls.{unsettled_in}
 
+-- the tree has no leaf that a report of this kind may not have
+abbrev pub may_have_leaves : ReportKind → WideTree → Bool
+may_have_leaves kind open_leaf = true
+may_have_leaves kind (refuted_leaf reason fresh) = may_have kind reason
+may_have_leaves kind (branch test fresh yes_half no_half) =
+    may_have_leaves kind yes_half && may_have_leaves kind no_half
+
 -- the lines are a refutation under its head
-abbrev pub ShowsRefutedHeaded : Basis → Question → List ProofLine → Type 0
+abbrev pub ShowsRefutedHeaded : Basis → Question → List WideLine → Type 0
 ShowsRefutedHeaded basis question lines =
-    (tree : List ProofLine) × ShowsRefuted basis.sheet basis.season question tree
-    × (lines ≡ with_tree_head question.claim tree)
+    (tree : WideTree) × IsWideRefutation basis.sheet basis.season question tree
+    × IsTrue (may_have_leaves basis.kind tree)
+    × (lines ≡ with_wide_tree_head question.claim (plain_wide_lines tree))
 
 -- the lines are a tree on which the budget was spent, under its head
-abbrev pub ShowsSpentHeaded : Basis → Question → List ProofLine → Type 0
+abbrev pub ShowsSpentHeaded : Basis → Question → List WideLine → Type 0
 ShowsSpentHeaded basis question lines =
-    (tree : List ProofLine)
-    × ShowsSpent basis.sheet basis.season question basis.sheet.budget tree
-    × (lines ≡ with_spent_head question.claim tree)
+    (tree : WideTree)
+    × IsWideSpentTree basis.sheet basis.season question basis.sheet.budget tree
+    × IsTrue (may_have_leaves basis.kind tree)
+    × (lines ≡ with_wide_spent_head question.claim (marked_wide_lines tree))
 
 -- the lines are an example
-abbrev pub ShowsExampleOf : Basis → Question → List ProofLine → Type 0
+abbrev pub ShowsExampleOf : Basis → Question → List WideLine → Type 0
 ShowsExampleOf basis question lines =
-    IsExampleInLines basis.sheet basis.season question lines
+    (plain : List ProofLine) × IsExampleInLines basis.sheet basis.season question plain
+    × (lines ≡ map Plain plain)
 
 -- the lines show what a word says of a line and a club
-abbrev pub ShowsWord : Basis → ℕ → ℕ → RowWord → List ProofLine → Type 0
+abbrev pub ShowsWord : Basis → ℕ → ℕ → RowWord → List WideLine → Type 0
 ShowsWord basis line club Clinched lines =
     ShowsRefutedHeaded basis (full_question club line Outside) lines
 ShowsWord basis line club Lost lines =
     ShowsRefutedHeaded basis (full_question club line Inside) lines
 ShowsWord basis line club Possible lines =
-    (inside : List ProofLine) × (outside : List ProofLine)
+    (inside : List WideLine) × (outside : List WideLine)
     × ShowsExampleOf basis (full_question club line Inside) inside
     × ShowsExampleOf basis (full_question club line Outside) outside
     × (lines ≡ inside ++ outside)
 ShowsWord basis line club Unsettled lines =
-    (inside : List ProofLine) × (outside : List ProofLine)
+    (inside : List WideLine) × (outside : List WideLine)
     × ((ShowsExampleOf basis (full_question club line Inside) inside
     × ShowsSpentHeaded basis (full_question club line Outside) outside)
     ⊎ (ShowsSpentHeaded basis (full_question club line Inside) inside
@@ -62,13 +81,13 @@ pub record ShownItem : Type 0 where
   pub line : ℕ
   pub club : ℕ
   pub word : RowWord
-  pub lines : List ProofLine
+  pub lines : List WideLine
 
 -- the lines of an item: its row and what comes after it
 abbrev pub item_tokens : Basis → ShownItem → List Token
 item_tokens basis item =
     Row (verdict_fields item.line (name_of_club basis.sheet item.club) item.word)
-    ∷ map Proof item.lines
+    ∷ map token_of_wide item.lines
 
 -- the lines of an answer: the row of the ask and the items
 abbrev pub answer_tokens : Basis → List ShownItem → List Token

@@ -4,12 +4,12 @@
 use Rattle.std.specs.Prelude.{◌≡◌, ◌<◌, ◌≤◌, ℕ, ◌+◌, ◌^◌, Bool, true, false, IsTrue, List, [], ◌∷◌}
 use Rattle.std.specs.Prelude.{◌++◌, ◌*◌, length, take, drop, Result, Ok, Err, Option, Some}
 use Rattle.std.specs.Prelude.{None, if◌then◌else◌}
-use Rattle.league_core.specs.declared.tree.TreeNode.{TreeNode}
 use Rattle.league_core.specs.declared.question.Question.{Question}
 use Rattle.league_core.specs.declared.sheet.Sheet.{Sheet}
 use Rattle.league_core.specs.game.Results.{Results}
 use Rattle.league_core.specs.game.Seasons.{IsLeague}
 use Rattle.league_core.specs.inside.Pending.{pending_of}
+use Rattle.wide_lines.specs.declared.wide_node.WideNode.{WideNode}
 use Rattle.line_tokens.specs.declared.token.Token.{Token}
 use Rattle.cert_check.specs.declared.stop.Accepted.{Accepted}
 use Rattle.cert_check.specs.declared.stop.CheckStop.{CheckStop}
@@ -21,7 +21,7 @@ use Rattle.cert_check.specs.declared.expected.RowWord.TheVariants.{Clinched, Los
 use Rattle.cert_check.specs.declared.expected.RowWord.TheVariants.{Unsettled}
 use Rattle.line_tokens.specs.Tokens.{counts, counted_lines}
 use Rattle.cert_check.specs.LineLists.{NumberedLine, tokens_of, line_number_at}
-use Rattle.line_tokens.specs.declared.token.Token.TheVariants.{Blank, Row, Proof, Unknown}
+use Rattle.line_tokens.specs.declared.token.Token.TheVariants.{Blank, Row, Proof, Near, Unknown}
 use Rattle.cert_check.specs.declared.item.PartRead.{PartRead}
 use Rattle.cert_check.specs.declared.tree.TreeSpec.{TreeSpec}
 use Rattle.cert_check.specs.declared.tree.Walk.{Walk}
@@ -144,7 +144,7 @@ nodes_due wanted walk =
     nodes wanted.kind wanted.question walk.path.zone (pending_of walk.path.zone) walk.tally
 
 -- what is due after a node when it stands so
-abbrev pub after_walked : Basis → TreeSpec → Walk → TreeNode → Next Expected
+abbrev pub after_walked : Basis → TreeSpec → Walk → WideNode → Next Expected
 after_walked basis wanted walk node =
     after_node basis wanted.kind wanted.question walk.path.zone (pending_of walk.path.zone)
     walk.tally node
@@ -166,6 +166,7 @@ abbrev pub head_of_token : Claim → Token → Option Head
 head_of_token claim Blank = None
 head_of_token claim (Row fields) = None
 head_of_token claim (Proof line) = head_in claim line
+head_of_token claim (Near rival fresh) = None
 head_of_token claim Unknown = None
 
 -- ---- examples
@@ -194,6 +195,7 @@ lots_of_token clubs Blank = None
 lots_of_token clubs (Row fields) = None
 lots_of_token clubs (Proof (line.Lots told)) = lots_if_drawn (are_lots clubs told.list) told.list
 lots_of_token clubs (Proof _) = None
+lots_of_token clubs (Near rival fresh) = None
 lots_of_token clubs Unknown = None
 
 -- a call that goes on over one fixture: the scores so far are longer by its score

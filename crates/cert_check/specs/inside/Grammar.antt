@@ -9,17 +9,19 @@ use Rattle.league_core.specs.declared.season.Score.{Score}
 use Rattle.league_core.specs.declared.question.Claim.TheVariants.{Inside, Outside}
 use Rattle.league_core.specs.declared.question.Question.{Question}
 use Rattle.league_core.specs.declared.zone.Literal.{Literal}
-use Rattle.league_core.specs.declared.tree.TreeNode.{TreeNode}
-use Rattle.league_core.specs.declared.tree.TreeNode.TheVariants as node
 use Rattle.league_core.specs.game.Finishes.{may_all_end}
 use Rattle.league_core.specs.game.Ranking.{are_lots}
 use Rattle.league_core.specs.game.Questions.{holds_at, full_question}
-use Rattle.league_core.specs.search.Reasons.{has_reason}
-use Rattle.league_core.specs.search.Trees.{Tree, preorder, new_count, has_open, NodesMeet}
-use Rattle.cert_text.specs.declared.proof_line.ProofLine.{ProofLine}
 use Rattle.cert_text.specs.declared.proof_line.ProofLine.TheVariants as line
-use Rattle.cert_text.specs.TreeLines.{plain_line, marked_line, is_test_for}
+use Rattle.cert_text.specs.TreeLines.{is_test_for}
 use Rattle.cert_text.specs.ExampleLines.{score_lines, lots_line}
+use Rattle.wide_lines.specs.declared.wide_line.WideLine.{WideLine}
+use Rattle.wide_lines.specs.declared.wide_node.WideNode.{WideNode}
+use Rattle.wide_lines.specs.declared.wide_node.WideNode.TheVariants as node
+use Rattle.wide_lines.specs.WideReasons.{has_wide_reason}
+use Rattle.wide_lines.specs.WideTrees.{WideTree, wide_preorder, wide_new_count, has_wide_open}
+use Rattle.wide_lines.specs.WideTrees.{WideNodesMeet}
+use Rattle.wide_lines.specs.WideTreeLines.{plain_wide_line, marked_wide_line}
 use Rattle.line_tokens.specs.declared.token.Token.{Token}
 use Rattle.line_tokens.specs.declared.token.Token.TheVariants.{Row, Proof}
 use Rattle.cert_check.specs.declared.expected.RowWord.{RowWord}
@@ -33,9 +35,8 @@ use Rattle.cert_check.specs.ExpectedItems.{spent_head}
 use Rattle.cert_check.specs.ExpectedItems.{finish_head, both_parts, one_part, nodes, score, lots}
 use Rattle.cert_check.specs.ExpectedItems.{ask_fields, verdict_fields}
 use Rattle.line_tokens.specs.LineRanges.{name_of_club}
-use Rattle.line_tokens.specs.LineRanges.{is_reason_for}
-use Rattle.cert_check.specs.ExpectedItems.{is_tally_whole, finish_with}
-use Rattle.line_tokens.specs.Tokens.{counts}
+use Rattle.cert_check.specs.ExpectedItems.{is_tally_whole, finish_with, may_refute}
+use Rattle.line_tokens.specs.Tokens.{counts, token_of_wide}
 use Rattle.cert_check.specs.Machine.{report_grammar}
 use Rattle.cert_check.specs.inside.LineParts.{PartGrammar, AreAllParts}
 
@@ -43,48 +44,48 @@ use Rattle.cert_check.specs.inside.LineParts.{PartGrammar, AreAllParts}
 
 -- the node may stand in a tree of this kind: its test or its reason is one for the question, and a
 -- proved leaf's reason holds in its zone
-abbrev pub NodeFits : Bool → Basis → TreeKind → Question → List Literal → TreeNode → Type 0
+abbrev pub NodeFits : Bool → Basis → TreeKind → Question → List Literal → WideNode → Type 0
 NodeFits proved basis kind question zone (node.Split test fresh) =
     IsTrue (is_test_for basis.sheet question test)
 NodeFits proved basis kind question zone (node.Refuted reason fresh) =
-    IsTrue (is_reason_for basis.sheet question reason)
-    × OnTrue proved (IsTrue (has_reason basis.sheet basis.season question zone reason))
+    IsTrue (may_refute basis.kind basis.sheet question reason)
+    × OnTrue proved (IsTrue (has_wide_reason basis.sheet basis.season question zone reason))
 NodeFits proved basis Refutation question zone node.Open = ⊥
 NodeFits proved basis Spent question zone node.Open = Unit {0}
-NodeFits proved basis kind question zone (node.Lent number) = ⊥
 
 -- each node of each tree may stand there; the trees' roots have these zones
-abbrev pub TreesFit : Bool → Basis → TreeKind → Question → List (List Literal) → List Tree → Type 0
+abbrev pub TreesFit : Bool → Basis → TreeKind → Question → List (List Literal) → List WideTree
+    → Type 0
 TreesFit proved basis kind question [] [] = Unit {0}
 TreesFit proved basis kind question [] (tree ∷ trees) = ⊥
 TreesFit proved basis kind question (zone ∷ zones) [] = ⊥
 TreesFit proved basis kind question (zone ∷ zones) (tree ∷ trees) =
-    NodesMeet (NodeFits proved basis kind question) zone tree
+    WideNodesMeet (NodeFits proved basis kind question) zone tree
     × TreesFit proved basis kind question zones trees
 
 -- the line of a node in a tree of this kind
-abbrev pub line_of_node : TreeKind → TreeNode → ProofLine
-line_of_node Refutation it = plain_line it
-line_of_node Spent it = marked_line it
+abbrev pub line_of_node : TreeKind → WideNode → WideLine
+line_of_node Refutation it = plain_wide_line it
+line_of_node Spent it = marked_wide_line it
 
 -- the lines of a tree
-abbrev pub lines_of_tree : TreeKind → Tree → List Token
-lines_of_tree kind tree = map (λ it. Proof (line_of_node kind it)) (preorder tree)
+abbrev pub lines_of_tree : TreeKind → WideTree → List Token
+lines_of_tree kind tree = map (λ it. token_of_wide (line_of_node kind it)) (wide_preorder tree)
 
 -- the lines of trees, one after another
-abbrev pub lines_of_trees : TreeKind → List Tree → List Token
+abbrev pub lines_of_trees : TreeKind → List WideTree → List Token
 lines_of_trees kind trees = flat_map (lines_of_tree kind) trees
 
 -- the tally with the new nodes and the open leaves of a tree
-abbrev pub with_tree : Tally → Tree → Tally
+abbrev pub with_tree : Tally → WideTree → Tally
 with_tree tally tree =
     record {
-      news = tally.news + new_count tree;
-      some_open = tally.some_open || has_open tree;
+      news = tally.news + wide_new_count tree;
+      some_open = tally.some_open || has_wide_open tree;
     }
 
 -- the tally after trees
-abbrev pub tally_after : Tally → List Tree → Tally
+abbrev pub tally_after : Tally → List WideTree → Tally
 tally_after tally [] = tally
 tally_after tally (tree ∷ trees) = tally_after (with_tree tally tree) trees
 
@@ -93,7 +94,7 @@ tally_after tally (tree ∷ trees) = tally_after (with_tree tally tree) trees
 abbrev pub AreTrees : Bool → Basis → TreeKind → Question → List (List Literal) → Tally → List Token
     → Type 0
 AreTrees proved basis kind question zones tally tokens =
-    (trees : List Tree) × TreesFit proved basis kind question zones trees
+    (trees : List WideTree) × TreesFit proved basis kind question zones trees
     × OnTrue proved
     (IsTrue (is_tally_whole basis.sheet.budget kind (tally_after tally trees)))
     × (tokens ≡ lines_of_trees kind trees)

@@ -33,6 +33,7 @@ use Rattle.cert_check.specs.declared.outcome.CheckOutcome.TheVariants.{BadFeed, 
 use Rattle.cert_check.specs.declared.outcome.CheckOutcome.TheVariants.{InputTooLong}
 use Rattle.cert_check.specs.declared.outcome.CheckFailure.{CheckFailure}
 use Rattle.cert_check.specs.declared.outcome.CheckFailure.TheVariants as failure
+use Rattle.cert_check.specs.declared.expected.ReportKind.{ReportKind}
 use Rattle.cert_check.specs.Outcomes.{ReportInput, ReportProgressView, outcome_of, outcome_of_feed}
 use Rattle.cert_check.specs.Outcomes.{outcome_of_report, outcome_after, numbered}
 
@@ -54,10 +55,10 @@ ChecksBy comes_to contents after (Err failure.ReadFault) =
 ChecksBy comes_to contents after (Err failure.OutOfMemory) = Unit {0}
 
 -- the same of a whole input
-abbrev pub ChecksInput :
-    Option Contents → Option Contents → Result CheckOutcome CheckFailure → Type 0
-ChecksInput before after result = IfRead before (λ contents. ChecksBy outcome_of contents after
-    result)
+abbrev pub ChecksInput : ReportKind → Option Contents → Option Contents
+    → Result CheckOutcome CheckFailure → Type 0
+ChecksInput kind before after result =
+    IfRead before (λ contents. ChecksBy (outcome_of kind) contents after result)
 
 -- the reader's answer that an outcome came of: the report is judged only at the input's end
 abbrev pub answer_after_check : LineReaderView → CheckOutcome → Result Line ReadStop
@@ -287,8 +288,9 @@ IsRefusedBy end check_stop.OutOfMemory (Ok outcome) = ⊥
 IsRefusedBy end check_stop.OutOfMemory (Err want) = Unit {0}
 
 -- the lines that are known, as a report on a sheet
-abbrev pub report_read : Sheet → ReportLines → ReportInput
-report_read sheet told = record { sheet = sheet; lines = told.lines; end = told.end }
+abbrev pub report_read : ReportKind → Sheet → ReportLines → ReportInput
+report_read kind sheet told =
+    record { kind = kind; sheet = sheet; lines = told.lines; end = told.end }
 
 -- an entry is gone over: the report is read on from here; or it comes to this, whatever follows
 abbrev pub GoesOverEntry : ReportInput → ReportProgressView → ReportProgressView → Entry
@@ -302,10 +304,11 @@ GoesOverEntry report old new entry (Some outcome) =
 -- ---- what comes after the sheet, and after the feed
 
 -- what contents come to as a feed of the sheet and what follows it
-abbrev pub outcome_after_sheet : Sheet → Contents → Option CheckOutcome
-outcome_after_sheet sheet contents = outcome_of_feed sheet (feed_of sheet true contents [])
+abbrev pub outcome_after_sheet : ReportKind → Sheet → Contents → Option CheckOutcome
+outcome_after_sheet kind sheet contents =
+    outcome_of_feed kind sheet (feed_of sheet true contents [])
 
 -- what contents come to as a report, for a feed of these entries
-abbrev pub outcome_after_feed : Sheet → List Entry → Contents → Option CheckOutcome
-outcome_after_feed sheet entries contents =
-    outcome_of_report sheet entries contents.lines contents.ending
+abbrev pub outcome_after_feed : ReportKind → Sheet → List Entry → Contents → Option CheckOutcome
+outcome_after_feed kind sheet entries contents =
+    outcome_of_report kind sheet entries contents.lines contents.ending

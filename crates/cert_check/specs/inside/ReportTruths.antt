@@ -8,6 +8,7 @@ use Rattle.result_log.specs.declared.entry.Entry.{Entry}
 use Rattle.result_log.specs.declared.entry.Entry.TheVariants.{Change, Ask, Proofs, End}
 use Rattle.result_log.specs.Feeds.{Feed, feed_of}
 use Rattle.line_tokens.specs.Tokens.{counted_lines}
+use Rattle.cert_check.specs.declared.expected.ReportKind.{ReportKind}
 use Rattle.cert_check.specs.LineLists.{tokens_of}
 use Rattle.cert_check.specs.Machine.{basis_of}
 use Rattle.cert_check.specs.inside.Calls.{SaysTruly}
@@ -25,15 +26,15 @@ PartsTellTruly report (Change event ∷ entries) standing =
     PartsTellTruly report entries (progress_with standing (Change event))
 PartsTellTruly report (Ask ∷ entries) standing =
     (next : ℕ) × (unsettled : ℕ)
-    × SaysTruly (basis_of report.sheet standing.season standing.epoch) report.lines standing.at
-    next
+    × SaysTruly (basis_of report.kind report.sheet standing.season standing.epoch) report.lines
+    standing.at next
     × PartsTellTruly report entries (progress_after report.sheet standing next unsettled)
 PartsTellTruly report (Proofs ∷ entries) standing = PartsTellTruly report entries standing
 PartsTellTruly report (End ∷ entries) standing = PartsTellTruly report entries standing
 
--- an input is a sheet, a feed that ends with the record `proofs`, and a report of it that tells the
--- truth
-pub record HasTrueReport (contents : Contents) : Type 0 where
+-- an input is a sheet, a feed that ends with the record `proofs`, and a report of it, of this kind,
+-- that tells the truth
+pub record HasTrueReport (kind : ReportKind) (contents : Contents) : Type 0 where
   pub sheet : Sheet
   pub behind : Contents
   pub feed : Feed
@@ -43,12 +44,12 @@ pub record HasTrueReport (contents : Contents) : Type 0 where
   pub closed : feed.close ≡ Ok Proofs
   pub whole : feed.rest.ending ≡ Ok end
   pub tells : PartsTellTruly
-      (record { sheet = sheet; lines = map numbered feed.rest.lines; end = end }) feed.entries
-      (first_progress sheet)
+      (record { kind = kind; sheet = sheet; lines = map numbered feed.rest.lines; end = end })
+      feed.entries (first_progress sheet)
 
 -- an input whose report is accepted has one that tells the truth
 abbrev pub AcceptedInputsTellTruly : Type 0
 AcceptedInputsTellTruly =
-    (contents : Contents) (rows unsettled : ℕ)
-    → outcome_of contents ≡ Some (Accepted rows unsettled)
-    → HasTrueReport contents
+    (kind : ReportKind) (contents : Contents) (rows unsettled : ℕ)
+    → outcome_of kind contents ≡ Some (Accepted rows unsettled)
+    → HasTrueReport kind contents

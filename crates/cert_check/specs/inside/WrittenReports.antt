@@ -5,9 +5,11 @@ use Rattle.std.specs.List.{list_all, flat_map}
 use Rattle.port_core.specs.Lines.{lines_of}
 use Rattle.port_core.specs.Contents.{Position, contents_from}
 use Rattle.cert_text.specs.Lines.{text_of_proof_line}
+use Rattle.cert_text.specs.Ranges.{is_club_number}
 use Rattle.cert_text.specs.Rows.{text_of_row}
+use Rattle.wide_lines.specs.WideTexts.{text_of_near}
 use Rattle.line_tokens.specs.declared.token.Token.{Token}
-use Rattle.line_tokens.specs.declared.token.Token.TheVariants.{Blank, Row, Proof, Unknown}
+use Rattle.line_tokens.specs.declared.token.Token.TheVariants.{Blank, Row, Proof, Near, Unknown}
 use Rattle.cert_check.specs.declared.expected.RowWord.{RowWord}
 use Rattle.cert_check.specs.ExpectedItems.{ask_fields, verdict_fields}
 use Rattle.cert_check.specs.LineLists.{tokens_of}
@@ -28,6 +30,7 @@ abbrev pub written : Token → List ℕ
 written Blank = []
 written (Row fields) = text_of_row fields
 written (Proof line) = text_of_proof_line line ++ 10 ∷ []
+written (Near rival fresh) = text_of_near fresh rival ++ 10 ∷ []
 written Unknown = []
 
 -- the row of an ask
@@ -45,6 +48,7 @@ abbrev pub IsLineRead : Token → Type 0
 IsLineRead Blank = ⊥
 IsLineRead (Row fields) = IsAskRead fields ⊎ IsVerdictRead fields
 IsLineRead (Proof line) = IsWritable line
+IsLineRead (Near rival fresh) = IsTrue (is_club_number rival)
 IsLineRead Unknown = ⊥
 
 -- so is each of these

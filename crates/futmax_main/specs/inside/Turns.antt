@@ -233,7 +233,7 @@ CountsWords writes writes' status = ⊥
 
 -- how a run of each mode may end: words are refused by none, and only a report is no proof
 abbrev pub MayEndAs : Mode → Status → Type 0
-MayEndAs Check status = status ≢ BadWords
+MayEndAs (Check wide) status = status ≢ BadWords
 MayEndAs mode status = MayEndSession status
 
 -- a stop of the opening of a session is for a fault of the source only if its count rose, and else

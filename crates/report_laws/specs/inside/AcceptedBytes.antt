@@ -1,5 +1,4 @@
--- The bytes of an answer: what the program writes and what the mode `check` reads are the same
--- lines.
+-- The bytes of an answer: what the program writes and what a check reads are the same lines.
 use Rattle.std.specs.Prelude.{◌≡◌, ◌≢◌, ℕ, ◌*◌, List, length, Ok, Some}
 use Rattle.std.specs.List.{flat_map}
 use Rattle.league_core.specs.declared.sheet.Sheet.{Sheet}
@@ -9,6 +8,7 @@ use Rattle.port_core.specs.Contents.{Position, contents_from}
 use Rattle.result_log.specs.declared.entry.Entry.{Entry}
 use Rattle.line_tokens.specs.declared.token.Token.{Token}
 use Rattle.cert_check.specs.declared.outcome.CheckOutcome.TheVariants.{Accepted}
+use Rattle.cert_check.specs.declared.expected.ReportKind.{ReportKind}
 use Rattle.cert_check.specs.Outcomes.{outcome_of_report}
 use Rattle.cert_check.specs.inside.WrittenReports.{AreRead, written}
 use Rattle.report_laws.specs.inside.AcceptedReports.{AreAnswersWritten, rows_written}
@@ -18,12 +18,12 @@ use Rattle.report_laws.specs.inside.AcceptedReports.{AreAnswersWritten, rows_wri
 -- answers and with as many unsettled ones as they have
 abbrev pub WrittenAnswersAreAccepted : Type 0
 WrittenAnswersAreAccepted =
-    (sheet : Sheet) (entries : List Entry) (told : List Token) (unsettled : ℕ)
+    (kind : ReportKind) (sheet : Sheet) (entries : List Entry) (told : List Token) (unsettled : ℕ)
     (position : Position) (lines : List (ℕ × List ℕ)) (end : ℕ)
-    → AreAnswersWritten sheet entries
+    → AreAnswersWritten kind sheet entries
     (unplayed_season (length sheet.clubs) (length sheet.fixtures)) 0 told unsettled
     → AreRead told → position.lines ≢ 0
     → contents_from position (lines_of (flat_map written told))
     ≡ record { lines = lines; ending = Ok end }
-    → outcome_of_report sheet entries lines (Ok end)
+    → outcome_of_report kind sheet entries lines (Ok end)
     ≡ Some (Accepted (rows_written (length sheet.lines * length sheet.clubs) entries) unsettled)

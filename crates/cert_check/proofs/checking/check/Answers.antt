@@ -14,7 +14,8 @@ use Rattle.cert_check.proofs.checking.check.Goals as goal
 pub returns-in-Ok : goal.returns-in-Ok
 returns-in-Ok c =
     let judged : ReportView = record {
-      basis = basis_of c.args.sheet.now c.args.season.now c.args.epoch;
+      basis = basis_of c.args.asked.kind c.args.sheet.now c.args.season.now
+          c.args.asked.epoch;
       tokens = tokens_of c.args.lines.now;
     } in
     let whole = all_shown_ends judged c.args.from (part_of_ask c.args.sheet.now) c.in-Ok.found
@@ -28,7 +29,8 @@ returns-in-Ok c =
 pub returns-in-Err-BadLine : goal.returns-in-Err-BadLine
 returns-in-Err-BadLine c =
     let judged : ReportView = record {
-      basis = basis_of c.args.sheet.now c.args.season.now c.args.epoch;
+      basis = basis_of c.args.asked.kind c.args.sheet.now c.args.season.now
+          c.args.asked.epoch;
       tokens = tokens_of c.args.lines.now;
     } in
     let part = part_of_ask c.args.sheet.now in
@@ -44,7 +46,8 @@ returns-in-Err-BadLine c =
 pub returns-in-Err-NoProof : goal.returns-in-Err-NoProof
 returns-in-Err-NoProof c =
     let judged : ReportView = record {
-      basis = basis_of c.args.sheet.now c.args.season.now c.args.epoch;
+      basis = basis_of c.args.asked.kind c.args.sheet.now c.args.season.now
+          c.args.asked.epoch;
       tokens = tokens_of c.args.lines.now;
     } in
     let part = part_of_ask c.args.sheet.now in
@@ -60,7 +63,8 @@ returns-in-Err-NoProof c =
 pub returns-in-Err-Short : goal.returns-in-Err-Short
 returns-in-Err-Short c =
     let judged : ReportView = record {
-      basis = basis_of c.args.sheet.now c.args.season.now c.args.epoch;
+      basis = basis_of c.args.asked.kind c.args.sheet.now c.args.season.now
+          c.args.asked.epoch;
       tokens = tokens_of c.args.lines.now;
     } in
     let part = part_of_ask c.args.sheet.now in

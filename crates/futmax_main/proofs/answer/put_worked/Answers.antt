@@ -1,4 +1,5 @@
 use Rattle.command_words.specs.declared.command.Mode.TheVariants.{Table, Scores, WhatIf}
+use Rattle.command_words.specs.declared.command.Mode.TheVariants.{Decide}
 use Rattle.futmax_main.proofs.AnswerLemmas.{as-mode, found-answer, found-settled, resumed-live}
 use Rattle.futmax_main.proofs.answer.put_worked.Goals as goal
 
@@ -33,3 +34,9 @@ returns-in-WhatIf-clause-answer g c = λ saved kept.
     as-mode c.args.mode WhatIf c.args.pool.now c.args.about saved _ _ c.put_outcomes.result
     c.in-WhatIf.is
     (c.put_outcomes.ensures.answer saved)
+
+pub returns-in-Decide-clause-answer : goal.returns-in-Decide-clause-answer
+returns-in-Decide-clause-answer g c = λ saved kept.
+    as-mode c.args.mode (Decide c.in-Decide.proofs) c.args.pool.now c.args.about saved _ _
+    c.put_decisions.result c.in-Decide.is
+    (c.put_decisions.ensures.answer saved)

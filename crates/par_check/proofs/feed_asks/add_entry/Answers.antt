@@ -5,8 +5,9 @@ use Rattle.par_check.specs.FeedAsks.{TakesEntry}
 use Rattle.par_check.proofs.AsksOfLemmas.{event_taken, ask_taken, proofs_taken, end_taken}
 use Rattle.par_check.proofs.feed_asks.add_entry.Goals as goal
 
-pub returns-in_ok-add_event-in-Change : goal.returns-in_ok-add_event-in-Change
-returns-in_ok-add_event-in-Change c =
+pub returns-in_ok-add_event-in-Change-clause-takes :
+    goal.returns-in_ok-add_event-in-Change-clause-takes
+returns-in_ok-add_event-in-Change-clause-takes c =
     let log = c.args.asks.now.log.items in
     let epochs = c.args.asks.now.epochs.items in
     let new = c.add_event.new.asks.log.items in
@@ -15,8 +16,8 @@ returns-in_ok-add_event-in-Change c =
     (event_taken c.in-Change.event log new epochs
     (c.in_ok-add_event-in-Change.ensures {u = tt}).log))
 
-pub returns-in_ok-add_ask-in-Ask : goal.returns-in_ok-add_ask-in-Ask
-returns-in_ok-add_ask-in-Ask c =
+pub returns-in_ok-add_ask-in-Ask-clause-takes : goal.returns-in_ok-add_ask-in-Ask-clause-takes
+returns-in_ok-add_ask-in-Ask-clause-takes c =
     let log = c.args.asks.now.log.items in
     let epochs = c.args.asks.now.epochs.items in
     let new = c.add_ask.new.asks.epochs.items in
@@ -24,10 +25,10 @@ returns-in_ok-add_ask-in-Ask c =
     rw c.in-Ask.is (subst P (sym (c.in_ok-add_ask-in-Ask.ensures {u = tt}).log)
     (ask_taken log epochs new (c.in_ok-add_ask-in-Ask.ensures {u = tt}).epochs))
 
-pub returns-in-Proofs : goal.returns-in-Proofs
-returns-in-Proofs c =
+pub returns-in-Proofs-clause-takes : goal.returns-in-Proofs-clause-takes
+returns-in-Proofs-clause-takes c =
     rw c.in-Proofs.is (proofs_taken c.args.asks.now.log.items c.args.asks.now.epochs.items)
 
-pub returns-in-End : goal.returns-in-End
-returns-in-End c =
+pub returns-in-End-clause-takes : goal.returns-in-End-clause-takes
+returns-in-End-clause-takes c =
     rw c.in-End.is (end_taken c.args.asks.now.log.items c.args.asks.now.epochs.items)

@@ -10,25 +10,27 @@ returns-in-Ok g c =
     let sheet = c.args.sheet.now in
     let told = c.args.told.now in
     let asks = c.in_ok-asks.asks in
-    let report = report_read sheet told in
+    let report = report_read c.args.kind sheet told in
     let rows = rows_in sheet asks in
     let ending = ending_in sheet asks told.lines in
     comes_as c.ended.result (outcome_of_ending report rows ending)
     (outcome_from report c.args.entries.now (first_progress sheet))
     (accepted_comes report rows ending c.in-Ok.accepted c.ended.result c.in-Ok.ensures.same
     c.ended.ensures)
-    (report_comes sheet c.args.entries.now asks told (c.in_ok-asks.ensures {u = tt}).bases)
+    (report_comes c.args.kind sheet c.args.entries.now asks told (c.in_ok-asks.ensures {u =
+    tt}).bases)
 
 pub returns : goal.returns
 returns g c =
     let sheet = c.args.sheet.now in
     let told = c.args.told.now in
     let asks = c.in_ok-asks.asks in
-    let report = report_read sheet told in
+    let report = report_read c.args.kind sheet told in
     let rows = rows_in sheet asks in
     let ending = ending_in sheet asks told.lines in
     comes_as c.refused_by.result (outcome_of_ending report rows ending)
     (outcome_from report c.args.entries.now (first_progress sheet))
     (stop_comes report rows ending c.in-Err.stop c.refused_by.result c.in-Err.ensures.same
     c.refused_by.ensures)
-    (report_comes sheet c.args.entries.now asks told (c.in_ok-asks.ensures {u = tt}).bases)
+    (report_comes c.args.kind sheet c.args.entries.now asks told (c.in_ok-asks.ensures {u =
+    tt}).bases)

@@ -11,7 +11,7 @@ pub returns-in-Err-Fault-clause-outcome : goal.returns-in-Err-Fault-clause-outco
 returns-in-Err-Fault-clause-outcome g c = λ contents is.
     let reads = rw c.in-Err-Fault.field-0-is at c.in-Err-Fault.ensures.reads in
     let stops = reads contents is in
-    rw c.in-Err-Fault.field-0-is (feed-fault c.args.sheet.now
+    rw c.in-Err-Fault.field-0-is (feed-fault c.args.kind c.args.sheet.now
     (contents_to_come c.args.reader.now (g.S.Source.left c.args.source.now))
     (contents_to_come c.read_feed.new.reader (g.S.Source.left c.read_feed.new.source))
     stops.0 c.in-Err-Fault.number c.in-Err-Fault.fault contents stops.1)
@@ -21,7 +21,7 @@ returns-in-Err-Read-clause-outcome g c = λ contents is.
     let answers = rw c.in-Err-Read.field-0-is at c.stopped.ensures in
     let reads = rw c.in-Err-Read.field-0-is at c.in-Err-Read.ensures.reads in
     let stops = reads contents is in
-    feed-stop c.args.sheet.now
+    feed-stop c.args.kind c.args.sheet.now
     (contents_to_come c.args.reader.now (g.S.Source.left c.args.source.now))
     (contents_to_come c.read_feed.new.reader (g.S.Source.left c.read_feed.new.source))
     stops.0 c.in-Err-Read.stop c.stopped.result contents answers stops.1
@@ -47,15 +47,16 @@ returns-then-feed-clause-outcome g c =
     let after =
     contents_to_come c.check_report.new.reader (g.S.Source.left c.check_report.new.source) in
     let P : List Entry → Type 0 = λ entries. IfRead mid (λ rest.
-    ChecksBy (outcome_after_feed c.args.sheet.now entries) rest after c.check_report.result) in
-    feed-proofs c.args.sheet.now
+    ChecksBy (outcome_after_feed c.args.kind c.args.sheet.now entries) rest after
+    c.check_report.result) in
+    feed-proofs c.args.kind c.args.sheet.now
     (contents_to_come c.args.reader.now (g.S.Source.left c.args.source.now)) after mid
     c.in-Ok.feed.entries.items c.check_report.result
     (λ contents is.
     let Q : Bool → Type 0 =
     λ proofs. EndsFeed c.args.sheet.now contents mid c.in-Ok.feed.entries.items proofs in
     subst Q c.if-feed.true (c.in-Ok.ensures.reads contents is))
-    (subst P c.as_slice.ensures.value c.check_report.ensures.outcome)
+    (subst P c.as_slice-entries.ensures.value c.check_report.ensures.outcome)
 
 pub returns-then-feed-clause-takes : goal.returns-then-feed-clause-takes
 returns-then-feed-clause-takes g c =

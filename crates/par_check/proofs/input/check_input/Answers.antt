@@ -6,7 +6,7 @@ use Rattle.par_check.proofs.input.check_input.Goals as goal
 
 pub returns-in-Ok-clause-outcome : goal.returns-in-Ok-clause-outcome
 returns-in-Ok-clause-outcome g c =
-    input-sheet (contents_to_come c.args.reader.now (g.S.Source.left c.args.source.now))
+    input-sheet c.args.kind (contents_to_come c.args.reader.now (g.S.Source.left c.args.source.now))
     (contents_to_come c.read_sheet.new.reader (g.S.Source.left c.read_sheet.new.source))
     (contents_to_come c.check_feed.new.reader (g.S.Source.left c.check_feed.new.source))
     c.in-Ok.sheet c.check_feed.result c.in-Ok.ensures.reads c.check_feed.ensures.outcome
@@ -20,7 +20,8 @@ pub returns-in-Err-Fault-clause-outcome : goal.returns-in-Err-Fault-clause-outco
 returns-in-Err-Fault-clause-outcome g c =
     let reads = rw c.in-Err-Fault.field-0-is at c.in-Err-Fault.ensures.reads in
     rw c.in-Err-Fault.field-0-is
-    (input-sheet_fault (contents_to_come c.args.reader.now (g.S.Source.left c.args.source.now))
+    (input-sheet_fault c.args.kind (contents_to_come c.args.reader.now (g.S.Source.left
+    c.args.source.now))
     (contents_to_come c.read_sheet.new.reader (g.S.Source.left c.read_sheet.new.source))
     c.in-Err-Fault.number c.in-Err-Fault.fault reads)
 
@@ -28,7 +29,8 @@ pub returns-in-Err-Read-clause-outcome : goal.returns-in-Err-Read-clause-outcome
 returns-in-Err-Read-clause-outcome g c =
     let answers = rw c.in-Err-Read.field-0-is at c.stopped.ensures in
     let reads = rw c.in-Err-Read.field-0-is at c.in-Err-Read.ensures.reads in
-    input-sheet_stop (contents_to_come c.args.reader.now (g.S.Source.left c.args.source.now))
+    input-sheet_stop c.args.kind (contents_to_come c.args.reader.now (g.S.Source.left
+    c.args.source.now))
     (contents_to_come c.read_sheet.new.reader (g.S.Source.left c.read_sheet.new.source))
     c.in-Err-Read.stop c.stopped.result answers reads
 

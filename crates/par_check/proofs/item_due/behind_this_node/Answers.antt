@@ -7,9 +7,9 @@ returns-in_ok-behind_split-in-Split c =
     rw c.in-Split.is (if_true _ _ _ (sym c.may_split.ensures ∙ c.if-may_split.true)
     (c.in_ok-behind_split-in-Split.ensures c.args.report.now.basis c.args.row))
 
-pub returns-then-may_refute : goal.returns-then-may_refute
-returns-then-may_refute c =
-    rw c.in-Refuted.is (if_true _ _ _ (sym c.may_refute.ensures ∙ c.if-may_refute.true)
+pub returns-then-may_have_leaf : goal.returns-then-may_have_leaf
+returns-then-may_have_leaf c =
+    rw c.in-Refuted.is (if_true _ _ _ (sym c.may_have_leaf.ensures ∙ c.if-may_have_leaf.true)
     (c.behind_leaf.ensures c.args.report.now.basis c.args.row))
 
 pub returns-in-Open : goal.returns-in-Open

@@ -1,11 +1,11 @@
 use Rattle.report_laws.proofs.AcceptedTextLemmas.{texts_accepted}
 use Rattle.report_laws.proofs.ByteLemmas.{bytes_of_answers}
-use Rattle.report_laws.proofs.ItemLemmas.{answer_of_verdicts}
+use Rattle.report_laws.proofs.ItemLemmas.{answer_of_findings}
 use Rattle.report_laws.proofs.ReportLemmas.{report_of_answers}
 use Rattle.report_laws.proofs.laws.answers_are_accepted.Goals as goal
 
 pub returns-clause-answers : goal.returns-clause-answers
-returns-clause-answers c = answer_of_verdicts
+returns-clause-answers c = answer_of_findings
 
 pub returns-clause-reports : goal.returns-clause-reports
 returns-clause-reports c = report_of_answers

@@ -1,6 +1,21 @@
-use Rattle.std.proofs.Common.{arith}
-use Rattle.std.proofs.lemmas.Grind.{common_steps}
+use Rattle.std.proofs.Common.{Bool, [], ◌∷◌, Ok, ◌∙◌, refl, subst, arith}
+use Rattle.cert_check.specs.ExpectedItems.{after}
+use Rattle.cert_check.specs.inside.Calls.{NodeSays, nodes_due}
+use Rattle.cert_check.proofs.CallLemmas.{next_goes}
 use Rattle.cert_check.proofs.report.Report.tree.Goals as goal
 
 pub loop-walk-preserved : goal.loop-walk-preserved
-loop-walk-preserved c = grind (arith, common_steps)
+loop-walk-preserved c =
+    let judged = c.args.self.now in
+    let due = nodes_due c.args.wanted c.loop-walk.walk in
+    let later = nodes_due c.args.wanted c.take_node.new.walk in
+    let Says : Bool → Type 0 = λ ended. NodeSays
+    (after judged.basis due c.in_ok-place.token) c.in_ok-place.place later (Ok ended) in
+    let goes = next_goes judged c.loop-walk.at c.in_ok-place.place c.in_ok-place.token
+    c.in_ok-place.ensures due (later ∷ []) refl
+    (subst Says c.if-branch.false c.in_ok-take_node.ensures.says) in (
+      omega (arith, c.in_ok-place.ensures.within),
+      omega (arith, c.loop-walk.invariant.1, c.in_ok-place.ensures.behind, c.take_node.ensures.few),
+      c.in_ok-take_node.ensures.path,
+      λ dues unsettled. c.loop-walk.invariant.3 dues unsettled ∙ goes dues unsettled,
+    )

@@ -1,0 +1,15 @@
+//! The verdicts of a season by a search whose leaves may have near reasons.
+//!
+//! Read decided_rows' `specs/Decisions.antt` first: what an answer says of a line and a club, and
+//! what shows it; then `specs/inside/WideLooks.antt` and `specs/inside/WideTasks.antt` here.
+#![tactic(auto)]
+
+mod answer;
+mod laws;
+mod lines;
+mod part;
+mod solver;
+mod task;
+
+pub use answer::decide;
+pub use laws::questions_are_decided;

@@ -1,0 +1,16 @@
+use Rattle.answer_rows.proofs.OutputLemmas.{front-more, puts-behind}
+use Rattle.answer_rows.specs.Rows.{ask_row}
+use Rattle.decided_rows.specs.inside.AllDecided.{text_of_decided_items}
+use Rattle.decided_rows.proofs.put.put_decided.Goals as goal
+
+pub returns-in-Ok-clause-text : goal.returns-in-Ok-clause-text
+returns-in-Ok-clause-text g c =
+    puts-behind (ask_row c.args.epoch)
+    (text_of_decided_items c.args.proofs c.args.sheet.now c.args.all.now) _ _ _
+    c.put_items.result c.in-Ok.ensures.text c.put_items.ensures.text
+
+pub returns-in-Err-clause-text : goal.returns-in-Err-clause-text
+returns-in-Err-clause-text g c =
+    front-more (ask_row c.args.epoch)
+    (text_of_decided_items c.args.proofs c.args.sheet.now c.args.all.now) _ _
+    c.in-Err.ensures.text
