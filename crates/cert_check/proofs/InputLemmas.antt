@@ -152,9 +152,12 @@ module _ (kind : ReportKind) (sheet : Sheet) (before after : Option Contents) wh
       → StopsFeed sheet contents after entries (feed_stop.Read stop)
       → ChecksBy (outcome_after_sheet kind sheet) contents after result
   feed-stop entries read_stop.ReadFault result contents answers stops =
-      subst (ChecksBy (outcome_after_sheet kind sheet) contents after) (sym answers)
-      (stops.0, stops.1, ap (outcome_of_feed kind sheet) (stops.2 (ended (Err
-      read_stop.ReadFault))))
+      subst (ChecksBy (outcome_after_sheet kind sheet) contents after) (sym answers) (
+        stops.0,
+        stops.1,
+        ap (outcome_of_feed kind sheet) (stops.2 (ended (Err
+            read_stop.ReadFault))),
+      )
   feed-stop entries (read_stop.LineTooLong number) result contents answers stops =
       subst (ChecksBy (outcome_after_sheet kind sheet) contents after) (sym answers)
       (ap (outcome_of_feed kind sheet) stops.2)

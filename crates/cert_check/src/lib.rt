@@ -42,7 +42,7 @@ pub use laws::{
 };
 pub use line_list::LineList;
 pub use lines::{LinesStop, ReportLines, read_lines};
-pub use ranges::may_refute;
 pub use outcome::{CheckFailure, CheckOutcome, ReportFault};
+pub use ranges::may_refute;
 pub use report::Report;
 pub use stop::{Accepted, CheckStop, CheckStopAt};

@@ -18,12 +18,7 @@ pub fn is_ending(sheet: &Sheet, score: Score) -> bool
 }
 
 /// A leaf of a tree for the question may have this reason, in a report of this kind.
-pub fn may_refute(
-    kind: ReportKind,
-    sheet: &Sheet,
-    question: &Question,
-    reason: WideReason,
-) -> bool
+pub fn may_refute(kind: ReportKind, sheet: &Sheet, question: &Question, reason: WideReason) -> bool
     requires limits { IsWithinLimits sheet.now }
     requires in_range { question.now.club < length sheet.now.clubs }
     ensures { result ≡ dues.may_refute kind sheet.now question.now reason }

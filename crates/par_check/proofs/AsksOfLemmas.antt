@@ -173,7 +173,7 @@ other_on sheet entries at log epochs are same = record {
   log_count = omega (arith, are.log_count);
   ask_count = omega (arith, are.ask_count);
   bases = λ kind. ap (λ it. bases_of kind sheet log epochs ++ it) (sym (same kind)) ∙ are.bases
-  kind;
+      kind;
 }
 
 -- all entries are gone over

@@ -189,7 +189,6 @@ module _ (kind : ReportKind) (sheet : Sheet) (season : Results) (epoch other : â
       alike_node tree question zone zones tally (wide_node_in tree (Proof it))
   alike_line (score question ended left) (Proof it) item = alike_score question ended left it
   alike_line (lots question ended) (Proof it) item = alike_lots question ended it
-
   alike_line (nodes tree question zone zones tally) (Near rival fresh) item =
       alike_node tree question zone zones tally (wide_node_in tree (Near rival fresh))
   alike_line _ (Near rival fresh) item = record { same = refl; leaves = refl }

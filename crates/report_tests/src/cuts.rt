@@ -134,14 +134,7 @@ fn unproved(
     requires within { All (IsItemIn sheet.now 2 (length lines.now)) items.now }
 {
     match items.get(at) {
-        Some(item) => Ok(judge_item(
-            alloc,
-            ReportKind::Plain,
-            sheet,
-            season,
-            lines,
-            item,
-        )?),
+        Some(item) => Ok(judge_item(alloc, ReportKind::Plain, sheet, season, lines, item)?),
         None => Err("so few items".into()),
     }
 }
