@@ -16,8 +16,8 @@ returns-then-not-has_reason-clause-says c =
     let fits = subst P c.self.view_is (sym c.may_refute.ensures ∙ c.if-not-may_refute.false) in
     let said = c.has_reason.ensures in
     let no = c.if-not-has_reason.true in
-    let fails : has_wide_reason basis.sheet basis.season question path c.args.reason ≡ false = cc in (
+    let off : has_wide_reason basis.sheet basis.season question path c.args.reason ≡ false = cc in (
       refl,
       reason_unproved basis c.args.wanted.kind question path (pending_of path)
-          c.args.walk.now.tally c.args.reason c.args.fresh fits fails,
+          c.args.walk.now.tally c.args.reason c.args.fresh fits off,
     )
