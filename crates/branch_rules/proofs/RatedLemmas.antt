@@ -32,3 +32,8 @@ pub test_of_none : (rated : Option Rated) (result : Option Test) (P : Type 0)
     → IfNone result P
 test_of_none None result P is none = subst (λ o. IfNone o P) (sym is) (none refl)
 test_of_none (Some one) result P is none = subst (λ o. IfNone o P) (sym is) tt
+
+-- what holds if there is none
+pub if_there_is_none : (rated : Option Rated) (P : Type 0) → (rated ≡ None → P) → IfNone rated P
+if_there_is_none None P none = none refl
+if_there_is_none (Some one) P none = tt

@@ -6,14 +6,15 @@ ghost use Rattle.score_box.specs.inside.ZoneBoxViews.{HasFinish};
 
 use crate::left::Outcomes;
 use crate::slack_table::SlackTable;
-use league_core::{Claim, Fixture, Question};
+use league_core::{Claim, ClubSet, Fixture, Question};
 use score_box::{ZoneBox, own_least, own_most};
 
 /// By how many points a match can move a bound of a club.
 const MOST_OF_A_MATCH: i32 = 3;
 
 /// The bounds of the club's points, and by how many points the least of each rival marked after it
-/// may rise, and the most of each marked before it may fall, until it meets them.
+/// may rise, and the most of each marked before it may fall, until it meets them; and the rivals
+/// that cannot be level with it where they meet them.
 #[derive(Clone, Copy)]
 pub struct BoundSlack<'a> {
     question: &'a Question,
@@ -23,6 +24,7 @@ pub struct BoundSlack<'a> {
     falls: SlackTable,
     most: i32,
     least: i32,
+    barred: ClubSet,
 }
 
 /// What becomes of the marked rivals in a half.
@@ -40,7 +42,7 @@ struct Step {
 }
 
 impl<'a> BoundSlack<'a> {
-    pub fn of(zone_box: &ZoneBox, question: &'a Question) -> BoundSlack<'a>
+    pub fn of(zone_box: &ZoneBox, question: &'a Question, barred: ClubSet) -> BoundSlack<'a>
         requires has_finish { HasFinish zone_box.now }
         requires of_sheet { question.now.club < length zone_box.now.sheet.clubs }
     {
@@ -54,6 +56,7 @@ impl<'a> BoundSlack<'a> {
             falls: falls_of(zone_box, question, least),
             most,
             least,
+            barred,
         }
     }
 
@@ -100,18 +103,22 @@ impl<'a> BoundSlack<'a> {
             rise: self.most.wrapping_sub(most.min(self.question.high)),
             fall: least.max(self.question.low).wrapping_sub(self.least),
         };
-        let seen = self.seen(rival, step.and(moved));
         if moved.rise == 0 && moved.fall == 0 {
-            seen
-        } else {
-            let rise = self.rises.least_other(rival);
-            seen.and(self.effect_of(rise, self.falls.least_other(rival), moved))
+            return self.seen(rival, step);
         }
+        let met = self.effect_of(self.rises.of(rival), self.falls.of(rival), step.and(moved));
+        let rise = self.rises.least_other(rival);
+        met.and(self.effect_of(rise, self.falls.least_other(rival), moved))
     }
 
-    // What becomes of one rival, which this step brings nearer to its bounds.
+    // What becomes of one rival, which this step brings nearer to bounds that stay where they are.
+    // One that cannot be level there breaks its bound already where it meets it.
     fn seen(&self, rival: u8, step: Step) -> Effect {
-        self.effect_of(self.rises.of(rival), self.falls.of(rival), step)
+        let effect = self.effect_of(self.rises.of(rival), self.falls.of(rival), step);
+        Effect {
+            violates: effect.violates || (effect.ties && self.barred.has(rival)),
+            ties: effect.ties,
+        }
     }
 
     fn effect_of(&self, rise: i32, fall: i32, step: Step) -> Effect {

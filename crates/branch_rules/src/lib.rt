@@ -20,7 +20,7 @@ mod search;
 mod slack_table;
 mod worker;
 
-pub use choice::choose;
+pub use choice::{Choice, choose, choose_seeing};
 pub use piece_work::{work, work_with};
 pub use reasons::first_reason;
 pub use search::{find_with, proposed};

@@ -10,30 +10,31 @@ ghost use Rattle.branch_rules.specs.inside.Choices.{IsOutcomeSplit, options_at_f
 ghost use Rattle.branch_rules.specs.inside.Outcomes.{AreOutcomesOf};
 
 use crate::left::Outcomes;
-use crate::rated::{Rated, better, test_of};
+use crate::rated::{Rated, better};
 use crate::rating::Rater;
-use league_core::{Fixture, Question, Test};
+use league_core::{ClubSet, Fixture, Question, Test};
 use score_box::ZoneBox;
 
 /// The test of an outcome that is rated highest, of those that split the zone; none if each fixture
-/// has one outcome.
-pub fn outcome_test(zone_box: &ZoneBox, question: &Question) -> Option<Test>
+/// has one outcome. A test that brings one of the barred rivals level is rated as if that were too
+/// much.
+pub fn outcome_test(zone_box: &ZoneBox, question: &Question, barred: ClubSet) -> Option<Rated>
     requires has_finish { HasFinish zone_box.now }
     requires of_sheet { question.now.club < length zone_box.now.sheet.clubs }
-    ensures some { IfSome result (IsOutcomeSplit zone_box.now question.now) }
+    ensures some { IfSome result (λ one. IsOutcomeSplit zone_box.now question.now one.test) }
     ensures none { IfNone result (IsTrue
         (are_outcomes_fixed zone_box.now.sheet zone_box.now.season zone_box.now.zone)) }
 {
-    let rater = Rater::of(zone_box, question);
+    let rater = Rater::of(zone_box, question, barred);
     let unplayed = zone_box.unplayed();
     let mut best = None;
     for i in 0..unplayed.len() {
         best = better_of(zone_box, question, &rater, best, unplayed[i]);
         if rater.is_beyond(best) {
-            return test_of(best);
+            return best;
         }
     }
-    test_of(best)
+    best
 }
 
 // The best test so far, or a test of a fixture's outcome that is rated higher. If no such test can

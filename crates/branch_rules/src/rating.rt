@@ -1,7 +1,8 @@
 //! How soon a test of an outcome is tried. No clause mentions the rating: whatever it says, a
 //! choice is proper and due.
 //!
-//! First come tests of which one half breaks the bound of one marked rival alone. Of the others
+//! First come tests of which one half breaks the bound of one marked rival alone, or brings a rival
+//! to it that is known not to end level with the club. Of the others
 //! those come first whose yes half brings no pressed rival exactly level with the club: if one is
 //! level the criteria decide, and they are sure only when all outcomes are fixed. If the club's own
 //! points may miss the window, its own matches come before all that.
@@ -35,7 +36,7 @@ pub struct Rater<'a> {
 }
 
 impl<'a> Rater<'a> {
-    pub fn of(zone_box: &ZoneBox, question: &'a Question) -> Rater<'a>
+    pub fn of(zone_box: &ZoneBox, question: &'a Question, barred: ClubSet) -> Rater<'a>
         requires has_finish { HasFinish zone_box.now }
         requires of_sheet { question.now.club < length zone_box.now.sheet.clubs }
     {
@@ -45,11 +46,17 @@ impl<'a> Rater<'a> {
         };
         Rater {
             question,
-            pressure: BoundSlack::of(zone_box, question),
+            pressure: BoundSlack::of(zone_box, question, barred),
             before: zone_box.before(),
             after: zone_box.after(),
             excess,
         }
+    }
+
+    /// Nothing that is known of rivals would make the choice another one, or a better one: one half
+    /// is refuted at once, or the club's own points may miss the window.
+    pub fn is_urgent(rate: i32) -> bool {
+        REFUTES_A_HALF <= rate
     }
 
     /// No test whatever is rated higher than the best so far.

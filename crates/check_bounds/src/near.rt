@@ -15,7 +15,7 @@ use crate::cells::Cells;
 use crate::score_domain::{GoalRange, ScoreDomain};
 use crate::step::Marks;
 use league_core::{Question, Season};
-use near_bound::{MatchLeft, ZoneLeft, has_near};
+use near_bound::{MatchLeft, PlayedPart, ZoneLeft, has_near};
 
 // No score.
 const NOTHING: MatchLeft = MatchLeft {
@@ -49,9 +49,11 @@ pub fn has_near_over(
     let sheet = cells.sheet();
     let fixtures = sheet.fixtures.len();
     let matches = matches_left(cells, fixtures as u16);
+    let played = PlayedPart::of(sheet, season);
     let left = ZoneLeft {
         sheet,
         season,
+        played: &played,
         matches: &matches[..fixtures],
         before: marks.before,
         after: marks.after,

@@ -1,21 +1,23 @@
 //! A worker on one season, which looks for near reasons too.
 
-ghost use Rattle.std.specs.Prelude.{◌≡◌, false, IfOk, IsTrue};
+ghost use Rattle.std.specs.Prelude.{◌≡◌, ◌<◌, false, IfOk, IsTrue, length};
 ghost use Rattle.league_core.specs.declared.zone.Reason.{Reason};
 ghost use Rattle.league_core.specs.game.Questions.{IsQuestionOf};
 ghost use Rattle.league_core.specs.search.Zones.{IsZoneFor, is_zone_of};
-ghost use Rattle.league_core.specs.search.Options.{has_finish};
+ghost use Rattle.league_core.specs.search.Options.{has_finish, is_single};
 ghost use Rattle.league_core.specs.search.Reasons.{has_reason};
 ghost use Rattle.score_box.specs.inside.ZoneBoxViews.{HasFinish};
+ghost use Rattle.branch_rules.specs.inside.Choices.{IsDueSplit};
 ghost use Rattle.branch_rules.specs.inside.Found.{IsProposedInVain};
+ghost use Rattle.near_box.specs.inside.Sights.{IsKeepOf};
 ghost use Rattle.decide_run.specs.inside.WideLooks.{IsLookIn};
 
-use branch_rules::{choose, first_reason, move_to, proposed};
+use branch_rules::{Choice, choose_seeing, first_reason, move_to, proposed};
 use depth_search::ZoneLook;
 use example_finish::is_example;
 use flow_bound::FlowKeep;
-use league_core::{Literal, OutOfMemory, Question};
-use near_box::first_near;
+use league_core::{ClubSet, Literal, OutOfMemory, Question};
+use near_box::NearKeep;
 use score_box::{Played, ZoneBox};
 use std::alloc::Global;
 use std::marker::Model;
@@ -30,14 +32,18 @@ pub(crate) struct WideSolver<'a> {
     alloc: Global,
     zone_box: ZoneBox<'a>,
     keep: FlowKeep,
+    near: NearKeep,
 }
 
 impl<'a> Model for WideSolver<'a> {
     ghost use Rattle.score_box.specs.inside.PlayedViews.{PlayedView};
+    ghost use Rattle.near_box.specs.inside.Sights.{IsKeepOf};
 
     ghost Value = { PlayedView };
 
     ghost view = { λ w. record { sheet = w.zone_box.sheet; season = w.zone_box.season } };
+
+    ghost invariant = { λ w. IsKeepOf w.zone_box.sheet w.zone_box.season w.near };
 }
 
 impl<'a> WideSolver<'a> {
@@ -50,6 +56,7 @@ impl<'a> WideSolver<'a> {
             alloc,
             zone_box,
             keep: FlowKeep::new(),
+            near: NearKeep::of(played.sheet(), played.season()),
         })
     }
 
@@ -69,7 +76,13 @@ impl<'a> WideSolver<'a> {
         ensures same_season { self.new.season ≡ self.old.season }
     {
         move_to(&mut self.zone_box, zone)?;
-        find_wide(self.alloc, &self.zone_box, question, &mut self.keep)
+        find_wide(
+            self.alloc,
+            &self.zone_box,
+            question,
+            &mut self.keep,
+            &mut self.near,
+        )
     }
 }
 
@@ -79,18 +92,21 @@ fn find_wide(
     zone_box: &ZoneBox,
     question: &Question,
     keep: &mut FlowKeep,
+    near: &mut NearKeep,
 ) -> Result<ZoneLook<Example, WideReason>, OutOfMemory>
     requires has_finish { HasFinish zone_box.now }
     requires of_sheet { IsQuestionOf zone_box.now.sheet question.now }
     requires of_zone { IsTrue (is_zone_of zone_box.now.sheet zone_box.now.zone) }
-    ensures { IfOk result
+    requires near { IsKeepOf zone_box.now.sheet zone_box.now.season near.old }
+    ensures found { IfOk result
         (IsLookIn zone_box.now.sheet zone_box.now.season question.now zone_box.now.zone) }
+    ensures near { IsKeepOf zone_box.now.sheet zone_box.now.season near.new }
 {
     if is_example(zone_box, question) {
         let (finish, lots) = proposed(alloc, zone_box, question)?;
         Ok(ZoneLook::Won(Example { finish, lots }))
     } else {
-        reason_or_split(alloc, zone_box, question, keep)
+        reason_or_split(alloc, zone_box, question, keep, near)
     }
 }
 
@@ -100,27 +116,30 @@ fn reason_or_split(
     zone_box: &ZoneBox,
     question: &Question,
     keep: &mut FlowKeep,
+    near: &mut NearKeep,
 ) -> Result<ZoneLook<Example, WideReason>, OutOfMemory>
     requires has_finish { HasFinish zone_box.now }
     requires of_sheet { IsQuestionOf zone_box.now.sheet question.now }
     requires of_zone { IsTrue (is_zone_of zone_box.now.sheet zone_box.now.zone) }
     requires in_vain { IsProposedInVain
         zone_box.now.sheet zone_box.now.season question.now zone_box.now.zone }
-    ensures { IfOk result
+    requires near { IsKeepOf zone_box.now.sheet zone_box.now.season near.old }
+    ensures found { IfOk result
         (IsLookIn zone_box.now.sheet zone_box.now.season question.now zone_box.now.zone) }
+    ensures near { IsKeepOf zone_box.now.sheet zone_box.now.season near.new }
 {
     match first_reason(alloc, zone_box, question, keep)? {
         Some(reason) => Ok(ZoneLook::Refuted(WideReason::Plain(reason))),
-        None => near_or_split(alloc, zone_box, question),
+        None => Ok(near_or_split(zone_box, question, near)),
     }
 }
 
 // The near reason by the first rival by which it holds; otherwise a split.
 fn near_or_split(
-    alloc: Global,
     zone_box: &ZoneBox,
     question: &Question,
-) -> Result<ZoneLook<Example, WideReason>, OutOfMemory>
+    near: &mut NearKeep,
+) -> ZoneLook<Example, WideReason>
     requires has_finish { HasFinish zone_box.now }
     requires of_sheet { IsQuestionOf zone_box.now.sheet question.now }
     requires of_zone { IsTrue (is_zone_of zone_box.now.sheet zone_box.now.zone) }
@@ -128,12 +147,32 @@ fn near_or_split(
         zone_box.now.sheet zone_box.now.season question.now zone_box.now.zone }
     requires no_reason { (reason : Reason) → has_reason
         zone_box.now.sheet zone_box.now.season question.now zone_box.now.zone reason ≡ false }
-    ensures { IfOk result
-        (IsLookIn zone_box.now.sheet zone_box.now.season question.now zone_box.now.zone) }
+    requires near { IsKeepOf zone_box.now.sheet zone_box.now.season near.old }
+    ensures found { IsLookIn
+        zone_box.now.sheet zone_box.now.season question.now zone_box.now.zone result }
+    ensures near { IsKeepOf zone_box.now.sheet zone_box.now.season near.new }
 {
     let _season = zone_box.season();
-    match first_near(alloc, zone_box, question)? {
-        Some(rival) => Ok(ZoneLook::Refuted(WideReason::Near(rival))),
-        None => Ok(ZoneLook::Split(choose(zone_box, question).test)),
+    let choice = choose_seeing(zone_box, question, ClubSet::empty());
+    let seen = near.look(zone_box, question, !choice.is_urgent);
+    match seen.near {
+        Some(rival) => ZoneLook::Refuted(WideReason::Near(rival)),
+        None => ZoneLook::Split(seeing(zone_box, question, choice, seen.barred).literal.test),
+    }
+}
+
+// The choice, or if rivals are barred, that which sees them.
+fn seeing(zone_box: &ZoneBox, question: &Question, choice: Choice, barred: ClubSet) -> Choice
+    requires has_finish { HasFinish zone_box.now }
+    requires of_sheet { question.now.club < length zone_box.now.sheet.clubs }
+    requires several { is_single zone_box.now.sheet zone_box.now.season zone_box.now.zone
+        ≡ false }
+    requires choice { IsDueSplit zone_box.now question.now choice.literal.test }
+    ensures { IsDueSplit zone_box.now question.now result.literal.test }
+{
+    if barred.is_empty() {
+        choice
+    } else {
+        choose_seeing(zone_box, question, barred)
     }
 }

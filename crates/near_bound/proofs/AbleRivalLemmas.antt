@@ -23,7 +23,7 @@ use Rattle.near_bound.specs.declared.groups.Groups.{Groups}
 use Rattle.near_bound.specs.declared.tie.Tie.{Tie}
 use Rattle.near_bound.specs.inside.Ties.{IsTieIn, fits_of}
 use Rattle.near_bound.specs.inside.PairLeads.{HasFit}
-use Rattle.near_bound.specs.inside.GroupsLeft.{AreGroupsIn, RivalsFit, AreAmong, group_is_wrong}
+use Rattle.near_bound.specs.inside.GroupsLeft.{AreGroupsIn, RivalsFit, group_is_wrong}
 use Rattle.near_bound.specs.inside.AbleRivals.{is_able_in, is_held_in, lacks_fit}
 use Rattle.near_bound.specs.inside.AbleRivals.{AreAbleRivals, AreHeldRivals}
 
@@ -102,14 +102,6 @@ able_rivals_fit tie able club zone are is own = record {
       able_fits tie zone rival (and_parts (has_club rivals rival) (is_able_in tie zone rival)
       (sym (has_club-filter (is_able_in tie zone) rivals rival)
       ∙ ap (λ (xs : List ℕ). has_club xs rival) (sym (are zone is)) ∙ has)).1;
-}
-
--- and some of these
-pub held_fit : (tie : Tie) (able held : ClubSet) (club : ℕ) (zone : List Literal)
-    → AreAmong held able → RivalsFit tie able club zone → RivalsFit tie held club zone
-held_fit tie able held club zone among fit = record {
-  club_fits = fit.club_fits;
-  rivals_fit = λ rival has. fit.rivals_fit rival (among rival has);
 }
 
 -- the held ones are those of the able ones for which that is true

@@ -38,7 +38,7 @@ all_or_none all points club match options score other out =
     ∙ sym (one_answer none (nat_lt other.away other.home) (other.home == other.away))
     ∙ other_fit all here points club match options other out.0 out.1 refl
 
-some_score : (options : List Score) → has_option options ≡ true
+pub some_score : (options : List Score) → has_option options ≡ true
     → (score : Score) × (has_score options score ≡ true)
 some_score [] some = absurd (false≢true some)
 some_score (first ∷ options) some = (first, has_score-first first options)

@@ -6,7 +6,7 @@ use Rattle.league_core.specs.declared.club_set.ClubSet.{ClubSet}
 use Rattle.league_core.specs.declared.zone.Literal.{Literal}
 use Rattle.league_core.specs.game.Sums.{has_club}
 use Rattle.near_laws.specs.Leads.{Lead, added_leads, at_most, total_lead}
-use Rattle.near_laws.specs.SureLeads.{leads_surely, decide_by, with_part, even_record}
+use Rattle.near_laws.specs.SureLeads.{decide_by, with_part, even_record, pair_lead}
 use Rattle.near_laws.specs.SureLeads.{lead_against}
 use Rattle.near_bound.specs.declared.margin.Margin.{Margin}
 use Rattle.near_bound.specs.declared.tie.Tie.{Tie}
@@ -14,7 +14,8 @@ use Rattle.near_bound.specs.declared.leads.Leads.{Leads}
 use Rattle.near_bound.specs.inside.Margins.{lead_by, record_parts}
 use Rattle.near_bound.specs.inside.Ties.{fits_of}
 use Rattle.near_bound.specs.inside.PairLeads.{AreLeadsIn, AreLeadsOf}
-use Rattle.near_bound.specs.inside.Decisions.{third_lead, leads_decide}
+use Rattle.near_bound.specs.inside.Decisions.{third_lead, leads_decide_anyway, leads_anyway}
+use Rattle.near_bound.specs.inside.Decisions.{lead_capped}
 use Rattle.near_bound.specs.inside.GroupsLeft.{AreOthers}
 
 nothing_finite : (lead : Lead) → added_leads lead None ≡ None
@@ -37,35 +38,80 @@ total_each first lead other (club ∷ others) each =
     (λ x has. each x (ap (λ b. (club == x) || b) has ∙ or-true (club == x))) i)
 
 -- if the first lead is infinite the others do not matter
-total_same : (pair : Option Margin) (lead other : ℕ → Lead) (others : List ℕ)
-    → (IsSome pair → (club : ℕ) → has_club others club ≡ true → lead club ≡ other club)
-    → total_lead (lead_by record_parts pair) lead others
-    ≡ total_lead (lead_by record_parts pair) other others
-total_same None lead other others each = total_none lead others ∙ sym (total_none other others)
-total_same (Some margin) lead other others each =
-    total_each (Some (record_parts margin)) lead other others (each refl)
+all_none : (lead other : ℕ → Lead) (chosen sure loose : List ℕ)
+    → total_lead (total_lead (total_lead None lead chosen) lead sure) other loose ≡ None
+all_none lead other chosen sure loose =
+    ap (λ (l : Lead). total_lead (total_lead l lead sure) other loose) (total_none lead chosen)
+    ∙ ap (λ (l : Lead). total_lead l other loose) (total_none lead sure)
+    ∙ total_none other loose
 
-pub decide_is : (tie : Tie) (zone : List Literal) (able : ClubSet) (front back : ℕ) (leads : Leads)
-    (others : List ℕ) → AreLeadsIn tie able front back zone leads → AreLeadsOf tie front back leads
-    → AreOthers able front back others
-    → leads_decide leads others
-    ≡ leads_surely tie.left.now.sheet.now (fits_of tie zone) front back others
-decide_is tie zone able front back leads others are of_tie among =
-    let sheet = tie.left.now.sheet.now in
-    let fits = fits_of tie zone in
-    let whole = total_same leads.pair (third_lead false leads) (lead_against sheet fits front back)
-    others
-    (λ some club has. are.against some club (among club has).0 (among club has).1
-    (among club has).2)
-    ∙ ap (λ (l : Lead). total_lead l (lead_against sheet fits front back) others) are.pair in
-    let part = total_same leads.pair (third_lead true leads)
-    (λ rival. Some (at_most even_record (lead_against sheet fits front back rival))) others
-    (λ some club has.
-    ap (λ (l : Lead). Some (at_most even_record l))
-    (are.against some club (among club has).0 (among club has).1 (among club has).2))
-    ∙ ap (λ (l : Lead). total_lead l
-    (λ rival. Some (at_most even_record (lead_against sheet fits front back rival))) others)
-    are.pair
-    in
-    (λ i. decide_by (of_tie.order i) (whole i) (part i) (are.first i)
-    (with_part (of_tie.rank i) (are.overall i)))
+-- the leads of a zone that were kept
+module _ (tie : Tie) (zone : List Literal) (able : ClubSet) (front back : ℕ) (leads : Leads)
+    (are : AreLeadsIn tie able front back zone leads) where
+  abbrev lead_in : ℕ → Lead
+  lead_in = lead_against tie.left.now.sheet.now (fits_of tie zone) front back
+
+  abbrev cap_in : ℕ → Lead
+  cap_in = lead_capped tie.left.now.sheet.now (fits_of tie zone) front back
+
+  abbrev pair_in : Lead
+  pair_in = pair_lead tie.left.now.sheet.now (fits_of tie zone) front back
+
+  against_is : (others : List ℕ) → AreOthers able front back others → IsSome leads.pair
+      → (club : ℕ) → has_club others club ≡ true → third_lead false leads club ≡ lead_in club
+  against_is others among some club has =
+      are.against some club (among club has).0 (among club has).1 (among club has).2
+
+  capped_is : (others : List ℕ) → AreOthers able front back others → IsSome leads.pair
+      → (club : ℕ) → has_club others club ≡ true → third_lead true leads club ≡ cap_in club
+  capped_is others among some club has =
+      ap (λ (l : Lead). Some (at_most even_record l)) (against_is others among some club has)
+
+  -- one list of clubs after the other
+  three_same : (lead other : ℕ → Lead) (chosen sure loose : List ℕ)
+      → (IsSome leads.pair → (club : ℕ) → has_club chosen club ≡ true → lead club ≡ other club)
+      → (IsSome leads.pair → (club : ℕ) → has_club sure club ≡ true → lead club ≡ other club)
+      → (IsSome leads.pair → (club : ℕ) → has_club loose club ≡ true
+      → third_lead true leads club ≡ cap_in club)
+      → total_lead (total_lead (total_lead (lead_by record_parts leads.pair) lead chosen) lead
+      sure) (third_lead true leads) loose
+      ≡ total_lead (total_lead (total_lead pair_in other chosen) other sure) cap_in loose
+  three_same lead other chosen sure loose one two three =
+      by_pair leads.pair one two three
+      ∙ ap (λ (l : Lead). total_lead (total_lead (total_lead l other chosen) other sure) cap_in
+      loose) are.pair
+    where
+      by_pair : (pair : Option Margin)
+          → (IsSome pair → (club : ℕ) → has_club chosen club ≡ true → lead club ≡ other club)
+          → (IsSome pair → (club : ℕ) → has_club sure club ≡ true → lead club ≡ other club)
+          → (IsSome pair → (club : ℕ) → has_club loose club ≡ true
+          → third_lead true leads club ≡ cap_in club)
+          → total_lead (total_lead (total_lead (lead_by record_parts pair) lead chosen) lead
+          sure) (third_lead true leads) loose
+          ≡ total_lead (total_lead (total_lead (lead_by record_parts pair) other chosen) other
+          sure) cap_in loose
+      by_pair None one two three =
+          all_none lead (third_lead true leads) chosen sure loose
+          ∙ sym (all_none other cap_in chosen sure loose)
+      by_pair (Some margin) one two three =
+          let first = total_each (Some (record_parts margin)) lead other chosen (one refl) in
+          let second = total_each (total_lead (Some (record_parts margin)) other chosen) lead other
+          sure (two refl) in
+          ap (λ (l : Lead). total_lead (total_lead l lead sure) (third_lead true leads) loose) first
+          ∙ ap (λ (l : Lead). total_lead l (third_lead true leads) loose) second
+          ∙ total_each
+          (total_lead (total_lead (Some (record_parts margin)) other chosen) other sure)
+          (third_lead true leads) cap_in loose (three refl)
+
+  pub decide_is : (chosen sure loose : List ℕ) → AreLeadsOf tie front back leads
+      → AreOthers able front back chosen → AreOthers able front back sure
+      → AreOthers able front back loose
+      → leads_decide_anyway leads chosen sure loose
+      ≡ leads_anyway tie.left.now.sheet.now (fits_of tie zone) front back chosen sure loose
+  decide_is chosen sure loose of_tie with_chosen with_sure with_loose =
+      let whole = three_same (third_lead false leads) lead_in chosen sure loose
+      (against_is chosen with_chosen) (against_is sure with_sure) (capped_is loose with_loose) in
+      let part = three_same (third_lead true leads) cap_in chosen sure loose
+      (capped_is chosen with_chosen) (capped_is sure with_sure) (capped_is loose with_loose) in
+      (λ i. decide_by (of_tie.order i) (whole i) (part i) (are.first i)
+      (with_part (of_tie.rank i) (are.overall i)))

@@ -106,15 +106,6 @@ any_member_passes test (first ∷ clubs) club has passes =
           ∙ or-true (test first)
     ]
 
--- the rest of a set is of the set
-pub rest_among : (set single rest whole : ClubSet)
-    → ((club : ℕ) → has_club (clubs_in rest) club
-    ≡ (has_club (clubs_in set) club && not (has_club (clubs_in single) club)))
-    → AreAmong set whole → AreAmong rest whole
-rest_among set single rest whole is among club has =
-    among club (and_parts (has_club (clubs_in set) club) (not (has_club (clubs_in single) club))
-    (sym (is club) ∙ has)).0
-
 -- all clubs of a set are below a number
 pub below_only : (set : ClubSet) (bound : ℕ) → bound ≤ 32
     → ((club : ℕ) → has_club (clubs_in set) club ≡ true → club < bound)

@@ -1,19 +1,19 @@
 -- Least leads added fixture by fixture: how they add up, and which fixtures add nothing.
-use Rattle.std.proofs.Common.{◌≡◌, ℕ, ℤ, pos, ◌+◌, ◌+ℤ◌, ◌<◌, ◌≤◌, true}
+use Rattle.std.proofs.Common.{◌≡◌, ℕ, ℤ, pos, ◌+◌, ◌+ℤ◌, ◌<◌, true}
 use Rattle.std.proofs.Common.{List, [], ◌∷◌, length, get_or, drop}
 use Rattle.std.proofs.Common.{map, Some, None, refl, sym, ap, ◌∙◌, subst}
 use Rattle.std.proofs.Common.{arith}
 use Rattle.std.proofs.lemmas.Int.{ints}
 use Rattle.std.proofs.lemmas.Bool.{false≢true}
-use Rattle.std.proofs.lemmas.List.{drop_more, drop_all, length-map}
+use Rattle.std.proofs.lemmas.List.{drop_more, get_or_default, length-map}
 use Rattle.league_core.specs.declared.sheet.Fixture.{Fixture}
 use Rattle.league_core.specs.declared.season.Score.{Score}
 use Rattle.league_core.specs.search.Options.{has_option}
 use Rattle.league_core.proofs.OptionLemmas.{has_score-first}
 use Rattle.near_laws.specs.Leads.{Lead, added_parts, added_leads, numbers_at, least_of, least_lead}
 use Rattle.near_laws.proofs.InTurnLemmas.{IsFrom, from_itself}
-use Rattle.near_laws.proofs.LeadLemmas.{HasSize, least_lead_size}
-use Rattle.near_bound.specs.inside.PairLeads.{IsLeadSoFar}
+use Rattle.near_laws.proofs.LeadLemmas.{HasSize}
+use Rattle.near_bound.specs.inside.PairLeads.{IsLeadSoFar, lead_over}
 use Rattle.near_bound.proofs.LeastLemmas.{least_of-is}
 
 -- ---- leads added up
@@ -69,15 +69,23 @@ none_last values None has = refl
 none_last values (Some numbers) has =
     ap (λ (ns : List ℤ). Some ns) (zeros_last values numbers has)
 
+added_parts-swap : (xs ys : List ℤ) → added_parts xs ys ≡ added_parts ys xs
+added_parts-swap [] [] = refl
+added_parts-swap [] (y ∷ ys) = refl
+added_parts-swap (x ∷ xs) [] = refl
+added_parts-swap (x ∷ xs) (y ∷ ys) =
+    let here : x +ℤ y ≡ y +ℤ x = omega (arith, ints) in
+    λ i. here i ∷ added_parts-swap xs ys i
+
+pub added_leads-swap : (first second : Lead) → added_leads first second ≡ added_leads second first
+added_leads-swap None None = refl
+added_leads-swap None (Some ys) = refl
+added_leads-swap (Some xs) None = refl
+added_leads-swap (Some xs) (Some ys) = ap (λ (ns : List ℤ). Some ns) (added_parts-swap xs ys)
+
 -- ---- one fixture after the other
 
-pub so_far_none : (values : List (Fixture → Score → ℤ)) (matches : List Fixture)
-    (options : List (List Score))
-    → IsLeadSoFar values matches options 0 (Some (zeros_of values))
-so_far_none values matches options =
-    none_first values (least_lead values matches options) (least_lead_size values matches options)
-
-least_lead-more : (values : List (Fixture → Score → ℤ)) (matches : List Fixture)
+pub least_lead-more : (values : List (Fixture → Score → ℤ)) (matches : List Fixture)
     (options : List (List Score)) (i : ℕ) (d : Fixture) → i < length matches → i < length options
     → least_lead values (drop i matches) (drop i options) ≡ added_leads
     (least_of (numbers_at values (get_or matches i d)) (get_or options i []))
@@ -89,38 +97,37 @@ least_lead-more values matches options i d inside there =
 
 -- a fixture is taken
 pub so_far_more : (values : List (Fixture → Score → ℤ)) (matches : List Fixture)
-    (options : List (List Score)) (count : ℕ) (d : Fixture) (old here new : Lead)
-    → count < length matches → count < length options
-    → IsLeadSoFar values matches options count old
-    → here ≡ least_of (numbers_at values (get_or matches count d)) (get_or options count [])
+    (options : List (List Score)) (fixture : ℕ) (d : Fixture) (fixtures : List ℕ)
+    (old here new : Lead) → fixture < length matches
+    → IsLeadSoFar values matches options (fixture ∷ fixtures) old
+    → here ≡ least_of (numbers_at values (get_or matches fixture d)) (get_or options fixture [])
     → new ≡ added_leads old here
-    → IsLeadSoFar values matches options (count + 1) new
-so_far_more values matches options count d old here new inside there so_far here_is is =
-    let rest = least_lead values (drop (count + 1) matches) (drop (count + 1) options) in
+    → IsLeadSoFar values matches options fixtures new
+so_far_more values matches options fixture d fixtures old here new inside so_far here_is is =
+    let rest = lead_over values matches options fixtures in
+    let own = get_or options fixture [] in
     ap (λ (l : Lead). added_leads l rest) is
     ∙ added_leads-assoc old here rest
-    ∙ ap (λ (l : Lead). added_leads old (added_leads l rest)) here_is
-    ∙ ap (added_leads old) (sym (least_lead-more values matches options count d inside there))
+    ∙ ap (λ (l : Lead). added_leads old (added_leads l rest))
+    (here_is
+    ∙ ap (λ (m : Fixture). least_of (numbers_at values m) own)
+    (get_or_default matches fixture d (record { home = 0; away = 0 }) inside))
     ∙ so_far
 
 -- a fixture that says nothing is left out
 pub so_far_same : (values : List (Fixture → Score → ℤ)) (matches : List Fixture)
-    (options : List (List Score)) (count : ℕ) (d : Fixture) (lead : Lead)
-    → count < length matches → count < length options
-    → IsLeadSoFar values matches options count lead
-    → ((score : Score) → numbers_at values (get_or matches count d) score ≡ zeros_of values)
-    → has_option (get_or options count []) ≡ true
-    → IsLeadSoFar values matches options (count + 1) lead
-so_far_same values matches options count d lead inside there so_far zero some =
-    let rest = least_lead values (drop (count + 1) matches) (drop (count + 1) options) in
-    ap (added_leads lead)
-    (sym (none_first values rest
-    (least_lead_size values (drop (count + 1) matches) (drop (count + 1) options)))
-    ∙ ap (λ (l : Lead). added_leads l rest)
-    (no_number values (numbers_at values (get_or matches count d)) (get_or options count []) zero
-    some)
-    ∙ sym (least_lead-more values matches options count d inside there))
-    ∙ so_far
+    (options : List (List Score)) (fixture : ℕ) (d : Fixture) (fixtures : List ℕ) (lead : Lead)
+    → fixture < length matches → HasSize (length values) lead
+    → IsLeadSoFar values matches options (fixture ∷ fixtures) lead
+    → ((score : Score) → numbers_at values (get_or matches fixture d) score ≡ zeros_of values)
+    → has_option (get_or options fixture []) ≡ true
+    → IsLeadSoFar values matches options fixtures lead
+so_far_same values matches options fixture d fixtures lead inside has so_far zero some =
+    so_far_more values matches options fixture d fixtures lead (Some (zeros_of values)) lead inside
+    so_far
+    (no_number values (numbers_at values (get_or matches fixture d)) (get_or options fixture [])
+    zero some)
+    (sym (none_last values lead has))
   where
     length-zeros_of : (vs : List (Fixture → Score → ℤ)) → length (zeros_of vs) ≡ length vs
     length-zeros_of vs = simp length-map
@@ -144,11 +151,7 @@ so_far_same values matches options count d lead inside there so_far zero some =
 
 -- no fixture is left
 pub so_far_all : (values : List (Fixture → Score → ℤ)) (matches : List Fixture)
-    (options : List (List Score)) (count : ℕ) (lead : Lead) → length matches ≤ count
-    → HasSize (length values) lead → IsLeadSoFar values matches options count lead
+    (options : List (List Score)) (lead : Lead) → HasSize (length values) lead
+    → IsLeadSoFar values matches options [] lead
     → lead ≡ least_lead values matches options
-so_far_all values matches options count lead all has so_far =
-    sym (none_last values lead has)
-    ∙ ap (added_leads lead)
-    (ap (λ ms. least_lead values ms (drop count options)) (sym (drop_all count matches all)))
-    ∙ so_far
+so_far_all values matches options lead has so_far = sym (none_last values lead has) ∙ so_far

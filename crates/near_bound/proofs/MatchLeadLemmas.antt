@@ -1,6 +1,6 @@
 -- What one match does to the leads of one club over another, by which of its sides are one of the
 -- two.
-use Rattle.std.proofs.Common.{◌≡◌, ℕ, ◌+◌, ◌<◌, ◌≤◌, Bool, true, false, ◌&&◌, ◌||◌, not, cond}
+use Rattle.std.proofs.Common.{◌≡◌, ℕ, ◌<◌, ◌≤◌, Bool, true, false, ◌&&◌, ◌||◌, not, cond}
 use Rattle.std.proofs.Common.{List, [], ◌∷◌, length, get_or, set, Option, refl, sym, ap, ◌∙◌}
 use Rattle.std.proofs.lemmas.Bool.{true≢false, false≢true}
 use Rattle.league_core.specs.declared.club_set.ClubSet.{ClubSet}
@@ -76,24 +76,24 @@ one_are false b one = refl
 pub passes_by : (tie : Tie) (able : ClubSet) (front back : ℕ) (zone : List Literal) (k : ℕ)
     (match d : Fixture) (home away : Bool) (leads : Leads)
     → IsMatchOf tie able front back zone k match d home away → (home || away) ≡ false
-    → AreLeadsSoFar tie able front back zone k leads
-    → AreLeadsSoFar tie able front back zone (k + 1) leads
-passes_by tie able front back zone k match d home away leads at none so_far =
+    → (fixtures : List ℕ) → AreLeadsSoFar tie able front back zone (k ∷ fixtures) leads
+    → AreLeadsSoFar tie able front back zone fixtures leads
+passes_by tie able front back zone k match d home away leads at none fixtures so_far =
     let sides = none_is home away none in
     let overall = overall_skips tie zone front back k match d leads.overall at.of_tie at.is
     at.inside at.match_is at.fits.front_fits at.fits.back_fits
     (sym (λ i. at.home_is i || at.away_is i) ∙ none) in record {
-      pair = pair_skips tie zone front back k match d (lead_by record_parts leads.pair) at.of_tie
+      pair = pair_skips tie zone front back k match d leads.pair at.of_tie
           at.is at.clubs.apart at.inside at.match_is at.fits.front_fits at.fits.back_fits
-          (sym (λ i. at.home_is i && at.away_is i) ∙ sides.0) so_far.pair;
-      first = overall.0 so_far.first;
-      overall = overall.1 so_far.overall;
+          (sym (λ i. at.home_is i && at.away_is i) ∙ sides.0) fixtures so_far.pair;
+      first = overall.0 fixtures so_far.first;
+      overall = overall.1 fixtures so_far.overall;
       against = λ common rival among apart also.
           passes_unless_one tie zone front back rival k match d
-          (lead_by record_parts (kept_lead leads.against rival)) home away at.of_tie at.is at.inside
+          (kept_lead leads.against rival) home away at.of_tie at.is at.inside
           at.match_is common at.fits.front_fits at.fits.back_fits (at.fits.each_fits rival among)
           apart also at.home_is at.away_is sides.1
-          (so_far.against common rival among apart also);
+          fixtures (so_far.against common rival among apart also);
     }
 
 pub takes_both : (tie : Tie) (able : ClubSet) (front back : ℕ) (zone : List Literal) (k : ℕ)
@@ -106,8 +106,8 @@ pub takes_both : (tie : Tie) (able : ClubSet) (front back : ℕ) (zone : List Li
     ≡ added_leads (lead_by first_parts leads.overall) (lead_by first_parts least)
     → lead_by overall_parts overall
     ≡ added_leads (lead_by overall_parts leads.overall) (lead_by overall_parts least)
-    → AreLeadsSoFar tie able front back zone k leads
-    → AreLeadsSoFar tie able front back zone (k + 1) (record {
+    → (fixtures : List ℕ) → AreLeadsSoFar tie able front back zone (k ∷ fixtures) leads
+    → AreLeadsSoFar tie able front back zone fixtures (record {
       pair = pair;
       overall = overall;
       against = leads.against;
@@ -115,20 +115,20 @@ pub takes_both : (tie : Tie) (able : ClubSet) (front back : ℕ) (zone : List Li
       order = leads.order;
     })
 takes_both tie able front back zone k match d home away leads least pair overall at both is_least
-    by_record by_first by_last so_far =
+    by_record by_first by_last fixtures so_far =
     let all = overall_takes tie zone front back k match d leads.overall least overall at.of_tie
     at.is at.inside at.match_is is_least by_first by_last in record {
       pair = pair_takes tie zone front back k match d leads.pair least pair at.of_tie at.is
           at.inside at.match_is (sym (λ i. at.home_is i && at.away_is i) ∙ both) is_least by_record
-          so_far.pair;
-      first = all.0 so_far.first;
-      overall = all.1 so_far.overall;
+          fixtures so_far.pair;
+      first = all.0 fixtures so_far.first;
+      overall = all.1 fixtures so_far.overall;
       against = λ common rival among apart also.
           passes_unless_one tie zone front back rival k match d
-          (lead_by record_parts (kept_lead leads.against rival)) home away at.of_tie at.is at.inside
+          (kept_lead leads.against rival) home away at.of_tie at.is at.inside
           at.match_is common at.fits.front_fits at.fits.back_fits (at.fits.each_fits rival among)
           apart also at.home_is at.away_is (both_are home away both)
-          (so_far.against common rival among apart also);
+          fixtures (so_far.against common rival among apart also);
     }
 
 pub takes_one : (tie : Tie) (able : ClubSet) (front back : ℕ) (zone : List Literal) (k : ℕ)
@@ -140,9 +140,9 @@ pub takes_one : (tie : Tie) (able : ClubSet) (front back : ℕ) (zone : List Lit
     ≡ added_leads (lead_by first_parts leads.overall) (lead_by first_parts least)
     → lead_by overall_parts overall
     ≡ added_leads (lead_by overall_parts leads.overall) (lead_by overall_parts least)
-    → AreAgainstSoFar tie able front back zone (k + 1) against
-    → AreLeadsSoFar tie able front back zone k leads
-    → AreLeadsSoFar tie able front back zone (k + 1) (record {
+    → (fixtures : List ℕ) → AreAgainstSoFar tie able front back zone fixtures against
+    → AreLeadsSoFar tie able front back zone (k ∷ fixtures) leads
+    → AreLeadsSoFar tie able front back zone fixtures (record {
       pair = leads.pair;
       overall = overall;
       against = against;
@@ -150,14 +150,14 @@ pub takes_one : (tie : Tie) (able : ClubSet) (front back : ℕ) (zone : List Lit
       order = leads.order;
     })
 takes_one tie able front back zone k match d home away leads least overall against at one is_least
-    by_first by_last by_third so_far =
+    by_first by_last fixtures by_third so_far =
     let all = overall_takes tie zone front back k match d leads.overall least overall at.of_tie
     at.is at.inside at.match_is is_least by_first by_last in record {
-      pair = pair_skips tie zone front back k match d (lead_by record_parts leads.pair) at.of_tie
+      pair = pair_skips tie zone front back k match d leads.pair at.of_tie
           at.is at.clubs.apart at.inside at.match_is at.fits.front_fits at.fits.back_fits
-          (sym (λ i. at.home_is i && at.away_is i) ∙ one_are home away one) so_far.pair;
-      first = all.0 so_far.first;
-      overall = all.1 so_far.overall;
+          (sym (λ i. at.home_is i && at.away_is i) ∙ one_are home away one) fixtures so_far.pair;
+      first = all.0 fixtures so_far.first;
+      overall = all.1 fixtures so_far.overall;
       against = by_third;
     }
 
@@ -166,14 +166,15 @@ pub third_left_out : (tie : Tie) (able : ClubSet) (front back : ℕ) (zone : Lis
     (match d : Fixture) (home away : Bool) (third : ℕ) (table : List (Option Margin))
     → IsMatchOf tie able front back zone k match d home away → cond home (not away) away ≡ true
     → third ≡ cond home match.away match.home → has_club (clubs_in able) third ≡ false
-    → AreAgainstSoFar tie able front back zone k table
-    → AreAgainstSoFar tie able front back zone (k + 1) table
-third_left_out tie able front back zone k match d home away third table at one third_is out so_far =
+    → (fixtures : List ℕ) → AreAgainstSoFar tie able front back zone (k ∷ fixtures) table
+    → AreAgainstSoFar tie able front back zone fixtures table
+third_left_out tie able front back zone k match d home away third table at one third_is out fixtures
+    so_far =
     λ common rival among apart also.
     passes_unless_third tie zone front back rival k third match d
-    (lead_by record_parts (kept_lead table rival)) home away at.of_tie at.is at.inside at.match_is
+    (kept_lead table rival) home away at.of_tie at.is at.inside at.match_is
     common (at.fits.each_fits rival among) apart also at.home_is at.away_is one third_is
-    (λ same. true≢false (sym among ∙ ap (has_club (clubs_in able)) (sym same) ∙ out))
+    (λ same. true≢false (sym among ∙ ap (has_club (clubs_in able)) (sym same) ∙ out)) fixtures
     (so_far common rival among apart also)
 
 -- or it is
@@ -186,14 +187,14 @@ pub third_taken : (tie : Tie) (able : ClubSet) (front back : ℕ) (zone : List L
     least
     → lead_by record_parts new
     ≡ added_leads (lead_by record_parts (kept_lead table third)) (lead_by record_parts least)
-    → AreAgainstSoFar tie able front back zone k table
-    → AreAgainstSoFar tie able front back zone (k + 1) (set table third new)
+    → (fixtures : List ℕ) → AreAgainstSoFar tie able front back zone (k ∷ fixtures) table
+    → AreAgainstSoFar tie able front back zone fixtures (set table third new)
 third_taken tie able front back zone k match d home away third table least new at one third_is short
-    is_least sum so_far =
+    is_least sum fixtures so_far =
     λ common rival among apart also.
     third_takes tie zone front back rival k third match d table least new home away at.of_tie at.is
     at.inside at.match_is common (at.fits.each_fits rival among) apart also at.home_is at.away_is
-    one third_is short is_least sum (so_far common rival among apart also)
+    one third_is short is_least sum fixtures (so_far common rival among apart also)
 
 -- ---- how near they are to zero
 

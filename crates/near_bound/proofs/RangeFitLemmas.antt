@@ -1,8 +1,8 @@
--- What the range of a club's points says of its fit scores. If it misses the points, a match has
--- none or there is no match at all; if it has them, each score of a match of others is fit.
+-- What the range of a club's points says of its fit scores: if it misses the points, a match has
+-- none, or there is no match at all.
 use Rattle.std.proofs.Common.{◌≡◌, ℕ, ℤ, pos, ◌<◌, ◌≤ℤ◌, ◌+ℤ◌, ◌-ℤ◌, ◌⊎◌, inl, inr, Bool}
-use Rattle.std.proofs.Common.{true, false, ◌&&◌, int_le, List, [], ◌∷◌, length, get_or, filter}
-use Rattle.std.proofs.Common.{slice_index, nat_lt, ◌==◌}
+use Rattle.std.proofs.Common.{true, false, ◌&&◌, int_le, List, [], ◌∷◌, length, filter}
+use Rattle.std.proofs.Common.{slice_index}
 use Rattle.std.proofs.Common.{refl, sym, ap, ◌∙◌, arith}
 use Rattle.std.specs.List.{list_all}
 use Rattle.std.proofs.Math.Bool.{and-true, and-false}
@@ -11,21 +11,18 @@ use Rattle.std.proofs.lemmas.Int.{ints}
 use Rattle.league_core.specs.declared.sheet.Fixture.{Fixture}
 use Rattle.league_core.specs.declared.season.Score.{Score}
 use Rattle.league_core.specs.declared.zone.Literal.{Literal}
-use Rattle.league_core.specs.search.Options.{options_in, has_option, has_score, has_finish}
+use Rattle.league_core.specs.search.Options.{options_in, has_option, has_score}
 use Rattle.league_core.specs.search.PointRanges.{Range, range_of, range_from, points_together}
 use Rattle.league_core.specs.search.PointRanges.{added, one_value}
-use Rattle.league_core.proofs.OptionTestLemmas.{has_option-some, first_shown}
 use Rattle.league_core.proofs.PointRangeLemmas.{range_bounds}
-use Rattle.league_core.proofs.plain.Lists.{list_all-at}
 use Rattle.league_core.proofs.plain.Numbers.{int_le-from, int_le-to}
 use Rattle.near_laws.specs.Fits.{can_reach, is_fit, options_where, leaves_points}
 use Rattle.near_laws.specs.Fits.{range_in}
 use Rattle.near_bound.specs.declared.tie.Tie.{Tie}
 use Rattle.near_bound.specs.inside.AbleRivals.{is_able_in}
-use Rattle.near_bound.specs.inside.Ties.{IsTie, IsTieIn, fits_of, range_has_points}
-use Rattle.near_bound.proofs.CommonFitLemmas.{StaysOut}
-use Rattle.near_bound.proofs.FitLeftLemmas.{has_score-filter, one_answer, other_fit, fit_at}
-use Rattle.near_bound.proofs.PointLemmas.{no_options, not_there}
+use Rattle.near_bound.specs.inside.Ties.{IsTieIn, range_has_points}
+use Rattle.near_bound.proofs.FitLeftLemmas.{has_score-filter}
+use Rattle.near_bound.proofs.PointLemmas.{no_options}
 
 -- from a range that misses the points no score reaches them
 reach_outside : (all here : Range) (given points : ℤ) → leaves_points all points ≡ false
@@ -102,52 +99,3 @@ outside_not_able tie zone club is inside misses =
     (λ match own score. and-true (is_fit sheet season zone tie.points match own score club))
     refl
     (ap (λ (r : Range). leaves_points r tie.points) (sym (is.ends club inside)) ∙ misses)
-
--- a range that has the points has them still where nothing is exchanged
-reach_same : (all : Range) (points : ℤ) → leaves_points all points ≡ true
-    → can_reach all (one_value (pos 0)) (pos 0) points ≡ true
-reach_same all points has =
-    let parts = and_parts (int_le all.least points) (int_le points all.greatest) has in
-    let from = int_le-to all.least points parts.0 in
-    let to = int_le-to points all.greatest parts.1 in
-    and_from (int_le (all.least -ℤ pos 0 +ℤ pos 0) points)
-    (int_le points (all.greatest -ℤ pos 0 +ℤ pos 0))
-    (int_le-from (all.least -ℤ pos 0 +ℤ pos 0) points (omega (arith, ints)))
-    (int_le-from points (all.greatest -ℤ pos 0 +ℤ pos 0) (omega (arith, ints)))
-
--- a match of others has a score that is fit for the club
-pub fit_elsewhere : (tie : Tie) (zone : List Literal) (club k : ℕ) (d : Fixture) → IsTie tie
-    → IsTieIn tie zone → club < length tie.left.now.sheet.now.clubs
-    → k < length tie.left.now.sheet.now.fixtures
-    → StaysOut (get_or tie.left.now.sheet.now.fixtures k d) club
-    → range_has_points tie club ≡ true
-    → has_option (get_or (fits_of tie zone (club ∷ [])) k []) ≡ true
-unfolding has_finish
-fit_elsewhere tie zone club k d tie_is is inside of_sheet out has =
-    let sheet = tie.left.now.sheet.now in
-    let season = tie.left.now.season.now in
-    let options = options_in sheet season zone in
-    let many = is.stands.matches.many in
-    let same = tie_is.left.many in
-    let there : k < length options = omega (arith, many, same, of_sheet) in
-    let match = get_or sheet.fixtures k d in
-    let own = get_or options k [] in
-    let shown = first_shown own (list_all-at has_option options k [] there is.finish) in
-    let all = range_in sheet season zone club in
-    let reach = can_reach all (one_value (pos 0)) (pos 0) tie.points in
-    let test = λ (score : Score). list_all (is_fit sheet season zone tie.points match own score)
-    (club ∷ []) in
-    let reaches : reach ≡ true =
-    reach_same all tie.points
-    (ap (λ (r : Range). leaves_points r tie.points) (sym (is.ends club inside)) ∙ has) in
-    let passes : (score : Score) → test score ≡ true =
-    λ score.
-    and-true (is_fit sheet season zone tie.points match own score club)
-    ∙ sym (other_fit all (one_value (pos 0)) tie.points club match own score out.0 out.1
-    (not_there match club own out.0 out.1))
-    ∙ one_answer reach (nat_lt score.away score.home) (score.home == score.away)
-    ∙ reaches in
-    ap has_option (fit_at sheet season zone tie.points (club ∷ []) k d of_sheet there)
-    ∙ has_option-some (filter test own) shown.0
-    (has_score-filter test own shown.0
-    ∙ and_from (has_score own shown.0) (test shown.0) shown.1 (passes shown.0))

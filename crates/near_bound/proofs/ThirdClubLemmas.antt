@@ -2,45 +2,48 @@
 use Rattle.std.proofs.Common.{◌≡◌, ◌≢◌, ℕ, ℤ, ◌<◌, ◌⊎◌, Bool, true, false, not, ◌&&◌, ◌||◌}
 use Rattle.std.proofs.Common.{◌==◌}
 use Rattle.std.proofs.Common.{cond, List, [], ◌∷◌, length, get_or, Option, refl}
-use Rattle.std.proofs.Common.{sym, ap, ◌∙◌, eq-eqb, inl, inr, arith}
+use Rattle.std.proofs.Common.{sym, ap, ◌∙◌, eq-eqb, inl, inr}
 use Rattle.std.proofs.Math.Bool.{or-true, or-false}
 use Rattle.std.proofs.lemmas.Bool.{ne_eqb, eqb-true, cases_eq, true≢false, or_cases}
 use Rattle.league_core.specs.declared.sheet.Fixture.{Fixture}
 use Rattle.league_core.specs.declared.season.Score.{Score}
 use Rattle.league_core.specs.declared.zone.Literal.{Literal}
 use Rattle.league_core.specs.game.Sums.{has_club}
-use Rattle.near_laws.specs.Leads.{Lead, added_leads, least_of, numbers_at, margins, worth_against}
+use Rattle.near_laws.specs.Leads.{added_leads, least_of, numbers_at, margins, worth_against}
 use Rattle.near_laws.specs.SureLeads.{record_worths}
 use Rattle.near_bound.specs.declared.margin.Margin.{Margin}
 use Rattle.near_bound.specs.declared.tie.Tie.{Tie}
 use Rattle.near_bound.specs.inside.Margins.{lead_by, record_parts, IsLeastMargin}
 use Rattle.near_bound.specs.inside.Ties.{IsTie, IsTieIn, fits_of}
 use Rattle.near_bound.specs.inside.PairLeads.{HasFit, HaveCommonFit, LeadGoesOn}
-use Rattle.near_bound.proofs.TieLemmas.{length-fit}
+use Rattle.near_bound.proofs.PairLeadLemmas.{record_size}
 use Rattle.near_bound.proofs.LeadWalkLemmas.{so_far_more, so_far_same}
 use Rattle.near_bound.proofs.CommonFitLemmas.{StaysOut, some_fit, some_with}
 use Rattle.near_bound.proofs.GroupWorthLemmas.{against_is, not_against_is, no_record}
 
 -- the leads by a third club go on unchanged
-abbrev pub Passes : Tie → List Literal → ℕ → ℕ → ℕ → ℕ → Lead → Type 0
+abbrev pub Passes : Tie → List Literal → ℕ → ℕ → ℕ → ℕ → Option Margin → Type 0
 Passes tie zone front back rival k lead =
     LeadGoesOn (margins (worth_against rival) record_worths front back)
     tie.left.now.sheet.now.fixtures
-    (fits_of tie zone (front ∷ back ∷ rival ∷ [])) k lead lead
+    (fits_of tie zone (front ∷ back ∷ rival ∷ [])) k (lead_by record_parts lead)
+    (lead_by record_parts lead)
 
 -- the third club does not play
 pub rival_out : (tie : Tie) (zone : List Literal) (front back rival k : ℕ) (d : Fixture)
-    (lead : Lead) → IsTie tie → IsTieIn tie zone → k < length tie.left.now.sheet.now.fixtures
+    (lead : Option Margin) → IsTie tie → IsTieIn tie zone
+    → k < length tie.left.now.sheet.now.fixtures
     → HaveCommonFit tie zone front back → HasFit tie zone rival
     → StaysOut (get_or tie.left.now.sheet.now.fixtures k d) rival
     → Passes tie zone front back rival k lead
-rival_out tie zone front back rival k d lead of_tie is inside common has_rival out so_far =
+rival_out tie zone front back rival k d lead of_tie is inside common has_rival out fixtures
+    so_far =
     let left = tie.left.now in
     let clubs = front ∷ back ∷ rival ∷ [] in
     let match = get_or left.sheet.now.fixtures k d in
-    let long = length-fit left zone tie.points clubs of_tie.left is.stands in
     so_far_same (margins (worth_against rival) record_worths front back) left.sheet.now.fixtures
-    (fits_of tie zone clubs) k d lead inside (omega (arith, long)) so_far
+    (fits_of tie zone clubs) k d fixtures (lead_by record_parts lead) inside (record_size lead)
+    so_far
     (λ score. not_against_is rival front back match score
     ((λ i. ne_eqb match.home rival out.0 i || (ne_eqb match.away rival out.1 i || false))))
     (some_with left zone tie.points (front ∷ back ∷ []) clubs rival k d of_tie.left is.stands inside
@@ -55,7 +58,8 @@ rival_out tie zone front back rival k d lead of_tie is inside common has_rival o
 
 -- neither of the two plays
 pub two_out : (tie : Tie) (zone : List Literal) (front back rival k : ℕ) (d : Fixture)
-    (lead : Lead) → IsTie tie → IsTieIn tie zone → k < length tie.left.now.sheet.now.fixtures
+    (lead : Option Margin) → IsTie tie → IsTieIn tie zone
+    → k < length tie.left.now.sheet.now.fixtures
     → HasFit tie zone front → HasFit tie zone back → HasFit tie zone rival
     → has_club ((get_or tie.left.now.sheet.now.fixtures k d).home
     ∷ (get_or tie.left.now.sheet.now.fixtures k d).away ∷ []) rival ≡ true
@@ -63,13 +67,13 @@ pub two_out : (tie : Tie) (zone : List Literal) (front back rival k : ℕ) (d : 
     → StaysOut (get_or tie.left.now.sheet.now.fixtures k d) back
     → Passes tie zone front back rival k lead
 two_out tie zone front back rival k d lead of_tie is inside has_front has_back has_rival plays out
-    also so_far =
+    also fixtures so_far =
     let left = tie.left.now in
     let clubs = front ∷ back ∷ rival ∷ [] in
     let match = get_or left.sheet.now.fixtures k d in
-    let long = length-fit left zone tie.points clubs of_tie.left is.stands in
     so_far_same (margins (worth_against rival) record_worths front back) left.sheet.now.fixtures
-    (fits_of tie zone clubs) k d lead inside (omega (arith, long)) so_far
+    (fits_of tie zone clubs) k d fixtures (lead_by record_parts lead) inside (record_size lead)
+    so_far
     (λ score.
     sym (λ i. against_is rival front back match plays i score)
     ∙ no_record front back match score out also)
@@ -108,15 +112,13 @@ pub rival_takes : (tie : Tie) (zone : List Literal) (front back rival k : ℕ) (
     tie.left.now.sheet.now.fixtures (fits_of tie zone (front ∷ back ∷ rival ∷ [])) k
     (lead_by record_parts old) (lead_by record_parts new)
 rival_takes tie zone front back rival k match d old here new of_tie is inside match_is plays least
-    sum
-    so_far =
+    sum fixtures so_far =
     let left = tie.left.now in
     let clubs = front ∷ back ∷ rival ∷ [] in
     let own = get_or (fits_of tie zone clubs) k [] in
-    let long = length-fit left zone tie.points clubs of_tie.left is.stands in
     so_far_more (margins (worth_against rival) record_worths front back) left.sheet.now.fixtures
-    (fits_of tie zone clubs) k d (lead_by record_parts old) (lead_by record_parts here)
-    (lead_by record_parts new) inside (omega (arith, long)) so_far
+    (fits_of tie zone clubs) k d fixtures (lead_by record_parts old)
+    (lead_by record_parts here) (lead_by record_parts new) inside so_far
     (least.record_lead
     ∙ ap (λ (f : Score → List ℤ). least_of f own) (against_is rival front back match plays)
     ∙ ap (λ (m : Fixture). least_of

@@ -2,23 +2,18 @@
 -- them, and the table before the first.
 use Rattle.std.proofs.Common.{◌≡◌, ◌≢◌, ℕ, ◌+◌, ◌<◌, ◌⊎◌, Bool, true, false, not, ◌||◌}
 use Rattle.std.proofs.Common.{◌==◌}
-use Rattle.std.proofs.Common.{cond, List, [], ◌∷◌, length, get_or, set, Option, Some, None, refl}
+use Rattle.std.proofs.Common.{cond, List, [], ◌∷◌, length, get_or, set, Option, None, refl}
 use Rattle.std.proofs.Common.{sym, ap, ◌∙◌, subst, eq-eqb, inl, inr, arith}
 use Rattle.std.proofs.Math.Bool.{or-true}
 use Rattle.std.proofs.lemmas.Bool.{cases_eq}
 use Rattle.league_core.specs.declared.sheet.Fixture.{Fixture}
 use Rattle.league_core.specs.declared.zone.Literal.{Literal}
 use Rattle.league_core.specs.game.Sums.{has_club}
-use Rattle.near_laws.specs.Leads.{Lead, added_leads, margins, worth_against}
+use Rattle.near_laws.specs.Leads.{added_leads, margins, worth_against}
 use Rattle.near_laws.specs.SureLeads.{record_worths}
 use Rattle.near_bound.specs.declared.margin.Margin.{Margin}
 use Rattle.near_bound.specs.declared.tie.Tie.{Tie}
 use Rattle.near_bound.specs.inside.Margins.{lead_by, record_parts, IsLeastMargin, IsLeadWithin}
-use Rattle.near_bound.specs.inside.Margins.{IsMarginWithin}
-use Rattle.std.proofs.Common.{replicate, pos}
-use Rattle.std.proofs.lemmas.Int.{ints}
-use Rattle.std.proofs.lemmas.Bool.{cases_lt}
-use Rattle.std.proofs.lemmas.List.{get_or_past, get_or-replicate, length-replicate}
 use Rattle.near_bound.specs.inside.Ties.{IsTie, IsTieIn, fits_of}
 use Rattle.near_bound.specs.inside.PairLeads.{HasFit, HaveCommonFit, LeadGoesOn, kept_lead}
 use Rattle.near_bound.proofs.CommonFitLemmas.{StaysOut}
@@ -28,21 +23,10 @@ use Rattle.std.proofs.lemmas.List.{get_or-set_same, get_or-set_other}
 use Rattle.near_bound.proofs.ThirdClubLemmas.{Passes, rival_out, two_out, rival_takes, plays_or_not}
 use Rattle.near_bound.proofs.ThirdClubLemmas.{third_is, neither_is}
 
--- the margin of no match
-abbrev pub no_margin : Margin
-no_margin = record {
-  points = pos 0;
-  difference = pos 0;
-  goals = pos 0;
-  away_goals = pos 0;
-  wins = pos 0;
-  away_wins = pos 0;
-}
-
 -- ---- what a fixture does to each third club
 
 pub passes_unless_one : (tie : Tie) (zone : List Literal) (front back rival k : ℕ)
-    (match d : Fixture) (lead : Lead) (home away : Bool) → IsTie tie → IsTieIn tie zone
+    (match d : Fixture) (lead : Option Margin) (home away : Bool) → IsTie tie → IsTieIn tie zone
     → k < length tie.left.now.sheet.now.fixtures
     → match ≡ get_or tie.left.now.sheet.now.fixtures k d
     → HaveCommonFit tie zone front back → HasFit tie zone front → HasFit tie zone back
@@ -66,7 +50,7 @@ passes_unless_one tie zone front back rival k match d lead home away of_tie is i
     ]
 
 pub passes_unless_third : (tie : Tie) (zone : List Literal) (front back rival k third : ℕ)
-    (match d : Fixture) (lead : Lead) (home away : Bool) → IsTie tie → IsTieIn tie zone
+    (match d : Fixture) (lead : Option Margin) (home away : Bool) → IsTie tie → IsTieIn tie zone
     → k < length tie.left.now.sheet.now.fixtures
     → match ≡ get_or tie.left.now.sheet.now.fixtures k d
     → HaveCommonFit tie zone front back → HasFit tie zone rival → rival ≢ front → rival ≢ back
@@ -139,7 +123,7 @@ third_takes tie zone front back rival k third match d table here new home away o
     at (inr other) =
         subst Goes (sym (get_or-set_other table third rival new None (λ e. other (sym e))))
         (passes_unless_third tie zone front back rival k third match d
-        (lead_by record_parts (kept_lead table rival)) home away of_tie is inside match_is common
+        (kept_lead table rival) home away of_tie is inside match_is common
         has_rival apart also home_is away_is one third_at other)
 
 -- and all of them are near
@@ -159,39 +143,3 @@ third_near table third bound new short near here club = at (cases_eq club third)
         subst (λ (l : Option Margin). IsLeadWithin (bound + 510) l)
         (sym (get_or-set_other table third club new None other))
         (lead_wider bound (bound + 510) (kept_lead table club) (omega arith) (near club))
-
--- ---- a table without a match
-
-nothing_in : (club : ℕ) → (kept_lead (replicate 32 (Some no_margin)) club ≡ Some no_margin)
-    ⊎ (kept_lead (replicate 32 (Some no_margin)) club ≡ None)
-nothing_in club =
-    elim (cases_lt club 32) as (λ _.
-    (kept_lead (replicate 32 (Some no_margin)) club ≡ Some no_margin)
-    ⊎ (kept_lead (replicate 32 (Some no_margin)) club ≡ None)) [
-      | inl within ↦ inl (get_or-replicate 32 club (Some no_margin) None within)
-      | inr past ↦ inr (get_or_past (replicate 32 (Some no_margin)) club None
-          (omega (arith, past, length-replicate {A = Option Margin})))
-    ]
-
-pub nothing_at : (club : ℕ) → club < 32
-    → Some no_margin ≡ kept_lead (replicate 32 (Some no_margin)) club
-nothing_at club within = sym (get_or-replicate 32 club (Some no_margin) None within)
-
-pub none_within : (bound : ℕ) → IsMarginWithin bound no_margin
-none_within bound = record {
-  points = (omega (arith, ints), omega (arith, ints));
-  difference = (omega (arith, ints), omega (arith, ints));
-  goals = (omega (arith, ints), omega (arith, ints));
-  away_goals = (omega (arith, ints), omega (arith, ints));
-  wins = (omega (arith, ints), omega (arith, ints));
-  away_wins = (omega (arith, ints), omega (arith, ints));
-}
-
-pub nothing_near : (bound club : ℕ)
-    → IsLeadWithin bound (kept_lead (replicate 32 (Some no_margin)) club)
-nothing_near bound club =
-    elim (nothing_in club) as (λ _.
-    IsLeadWithin bound (kept_lead (replicate 32 (Some no_margin)) club)) [
-      | inl is ↦ subst (λ (l : Option Margin). IsLeadWithin bound l) (sym is) (none_within bound)
-      | inr is ↦ subst (λ (l : Option Margin). IsLeadWithin bound l) (sym is) tt
-    ]

@@ -59,8 +59,8 @@ fn exchanged(all: i32, here: i32, given: u8) -> i32
 }
 
 impl MatchLeft {
-    // No two scores are left, as in a match that is played.
-    fn has_one_at_most(&self) -> bool
+    /// No two scores are left, as in a match that is played.
+    pub(crate) fn has_one_at_most(&self) -> bool
         ensures { result ≡ true → LeavesOneAtMost self.now }
     {
         self.home_least == self.home_most && self.away_least == self.away_most

@@ -56,10 +56,10 @@ impl Margin {
         }
     }
 
-    // The one less the other.
-    fn less(&self, other: &Margin) -> Margin
-        requires near { IsMarginWithin 255 self.now }
-        requires other_near { IsMarginWithin 255 other.now }
+    /// The one less the other.
+    pub fn less(&self, other: &Margin) -> Margin
+        requires near { IsMarginWithin 100000000 self.now }
+        requires other_near { IsMarginWithin 100000000 other.now }
         ensures points { result.points ≡ self.now.points -ℤ other.now.points }
         ensures difference { result.difference ≡ self.now.difference -ℤ other.now.difference }
         ensures goals { result.goals ≡ self.now.goals -ℤ other.now.goals }
@@ -101,8 +101,8 @@ fn worth_to(fixture: Fixture, club: u8, score: Score) -> Margin
     }
 }
 
-// What it is worth to a side with these goals.
-fn worth_of_side(scored: u8, conceded: u8, away: bool) -> Margin
+/// What it is worth to a side with these goals.
+pub fn worth_of_side(scored: u8, conceded: u8, away: bool) -> Margin
     ensures value { IsMarginBy (λ worth. worth scored conceded away) result }
     ensures near { IsMarginWithin 255 result }
 {

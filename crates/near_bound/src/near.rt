@@ -11,9 +11,9 @@ ghost use Rattle.near_bound.specs.inside.AllEnds.{AreAllEnds};
 ghost use Rattle.near_bound.specs.inside.ZonesLeft.{IsZoneLeft, StandsFor};
 
 use crate::all_ends::all_ends;
-use crate::both::cannot_both_have;
+use crate::lead_table::LeadTable;
+use crate::level::Level;
 use crate::points::PointEnds;
-use crate::tie::Tie;
 use crate::zone_left::ZoneLeft;
 use league_core::Question;
 
@@ -26,33 +26,6 @@ pub fn has_near(left: &ZoneLeft, question: &Question, rival: u8) -> bool
         ≡ has_near_reason left.now.sheet.now left.now.season.now question.now zone rival }
 {
     left.has_finish() && has_near_by(left, &all_ends(left), question, rival)
-}
-
-/// The rival is pressed, from behind the club or from ahead: it would have to end on the club's
-/// points. Without that the near reason does not hold. The look takes a walk over the fixtures.
-pub fn is_pressed(left: &ZoneLeft, question: &Question, rival: u8) -> bool
-    requires left { IsZoneLeft left.now }
-    requires question { IsQuestionOf left.now.sheet.now question.now }
-    requires in_range { rival < length left.now.sheet.now.clubs }
-    ensures { (zone : List Literal) → StandsFor left.now zone → result
-        ≡ (is_pressed_from_behind left.now.sheet.now left.now.season.now question.now zone rival
-        || is_pressed_from_ahead left.now.sheet.now left.now.season.now question.now zone rival) }
-{
-    is_pressed_by(left, &all_ends(left), question, rival)
-}
-
-// The rival is, by the points of the clubs.
-fn is_pressed_by(left: &ZoneLeft, ends: &[PointEnds; 32], question: &Question, rival: u8) -> bool
-    requires left { IsZoneLeft left.now }
-    requires ends { AreAllEnds left.now ends.now }
-    requires question { IsQuestionOf left.now.sheet.now question.now }
-    requires in_range { rival < length left.now.sheet.now.clubs }
-    ensures { (zone : List Literal) → StandsFor left.now zone → result
-        ≡ (is_pressed_from_behind left.now.sheet.now left.now.season.now question.now zone rival
-        || is_pressed_from_ahead left.now.sheet.now left.now.season.now question.now zone rival) }
-{
-    is_pressed_from_behind(left, ends, question, rival)
-        || is_pressed_from_ahead(left, ends, question, rival)
 }
 
 fn is_pressed_from_behind(
@@ -185,5 +158,5 @@ fn cannot_both_be_on(
         → has_finish left.now.sheet.now left.now.season.now zone ≡ true
         → result ≡ cannot_both_have left.now.sheet.now left.now.season.now zone points club rival }
 {
-    cannot_both_have(&Tie::new(left, points, ends), club, rival)
+    Level::of(left, ends, points, club).bars(&mut LeadTable::new(), rival)
 }

@@ -11,6 +11,7 @@ ghost use Rattle.near_bound.specs.inside.Points as ends;
 ghost use Rattle.near_bound.specs.inside.Points.{range_of_ends, side_points, AreEndsWithin};
 ghost use Rattle.near_bound.specs.inside.Points.{AreEndsOfClub};
 ghost use Rattle.near_bound.specs.inside.ZonesLeft.{AreLeftOf, IsZoneLeft, StandsFor};
+ghost use Rattle.near_bound.specs.inside.FitEnds.{AreFitEndsNear};
 
 use crate::match_left::MatchLeft;
 use crate::zone_left::ZoneLeft;
@@ -44,6 +45,20 @@ impl PointEnds {
         ensures { result ≡ leaves_points (range_of_ends self) points }
     {
         self.least <= points && points <= self.most
+    }
+
+    /// With the new ones in the place of the old ones.
+    pub(crate) fn exchanged(self, old: PointEnds, new: PointEnds) -> PointEnds
+        requires near { AreFitEndsNear 90000 self }
+        requires old_near { AreEndsWithin (pos 3) old }
+        requires new_near { AreEndsWithin (pos 3) new }
+        ensures least { result.least ≡ (self.least -ℤ old.least +ℤ new.least) }
+        ensures most { result.most ≡ (self.most -ℤ old.most +ℤ new.most) }
+    {
+        PointEnds {
+            least: self.least - old.least + new.least,
+            most: self.most - old.most + new.most,
+        }
     }
 
     pub(crate) fn less(self, off: u8) -> PointEnds

@@ -1,61 +1,91 @@
 //! Whether the leads of one club over another decide in a group.
 
-ghost use Rattle.std.specs.Prelude.{◌≡◌, ◌*◌, ◌+◌, ◌<◌, ◌&&◌, ◌++◌, ◌∷◌, [], true, false, length};
-ghost use Rattle.std.specs.Prelude.{Some};
+ghost use Rattle.std.specs.Prelude.{◌≡◌, ◌*◌, ◌+◌, ◌<◌, ◌&&◌, ◌||◌};
+ghost use Rattle.std.specs.Prelude.{◌++◌, ◌∷◌, [], true, false, length};
+ghost use Rattle.std.specs.Prelude.{Some, ℕ, ◌+ℤ◌};
 ghost use Rattle.league_core.specs.game.ClubSets.{clubs_in};
 ghost use Rattle.league_core.specs.game.HeadToHead.{by_first_difference};
 ghost use Rattle.near_laws.specs.Leads.{by_lead, is_ahead_by, is_level_or_ahead_by, at_most};
+ghost use Rattle.near_laws.specs.Leads.{added_leads, total_lead};
 ghost use Rattle.near_laws.specs.SureLeads.{even_record, with_part};
 ghost use Rattle.near_bound.specs.inside.Margins.{lead_by, record_parts, first_parts};
-ghost use Rattle.near_bound.specs.inside.Margins.{overall_parts, IsLeadWithin};
+ghost use Rattle.near_bound.specs.inside.Margins.{overall_parts, IsLeadWithin, IsMarginWithin};
 ghost use Rattle.near_bound.specs.inside.PairLeads.{AreLeadsNear};
-ghost use Rattle.near_bound.specs.inside.Decisions.{third_lead, total_by, leads_decide};
+ghost use Rattle.near_bound.specs.inside.Decisions.{third_lead, total_with, leads_decide_anyway};
 
 use crate::leads::Leads;
-use crate::margin::{Margin, added};
+use crate::margin::Margin;
 use league_core::{ClubSet, Order};
 use std::cmp::Ordering;
 
 impl Leads {
-    /// In a group with these others the front club is surely ahead of the back one.
-    pub fn decide(&self, others: ClubSet) -> bool
+    /// In each group with the chosen clubs, with those that surely join and with any of the loose
+    /// ones, the front club is surely ahead of the back one.
+    pub fn decide(&self, chosen: ClubSet, sure: ClubSet, loose: ClubSet) -> bool
         requires { AreLeadsNear self.now }
-        ensures { result ≡ leads_decide self.now (clubs_in others) }
+        ensures { result ≡ leads_decide_anyway self.now (clubs_in chosen) (clubs_in sure)
+            (clubs_in loose) }
     {
         match self.order {
-            Order::HeadFirst => is_above(self.total(others, false)) || self.decide_last(others),
+            Order::HeadFirst => {
+                is_above(self.total(chosen, sure, loose, false))
+                    || self.decide_last(chosen, sure, loose)
+            }
             Order::OverallFirst => {
                 self.is_first_above()
-                    || (self.is_first_from_zero()
-                        && (is_above(self.total(others, true)) || self.decide_last(others)))
+                    || (self.is_first_from_zero() && self.decide_part(chosen, sure, loose))
             }
         }
     }
 
+    // By the head-to-head of any part of the group, or by what comes last.
+    fn decide_part(&self, chosen: ClubSet, sure: ClubSet, loose: ClubSet) -> bool
+        requires { AreLeadsNear self.now }
+        ensures { result ≡ (is_ahead_by (total_with true self.now (clubs_in chosen) (clubs_in sure)
+            (clubs_in loose)) || (is_level_or_ahead_by (total_with true self.now (clubs_in chosen)
+            (clubs_in sure) (clubs_in loose)) && is_ahead_by
+            (with_part self.now.rank (lead_by overall_parts self.now.overall)))) }
+    {
+        is_above(self.total(chosen, sure, loose, true)) || self.decide_last(chosen, sure, loose)
+    }
+
     // Any part of the group leaves the two level at the least, and what comes last decides.
-    fn decide_last(&self, others: ClubSet) -> bool
+    fn decide_last(&self, chosen: ClubSet, sure: ClubSet, loose: ClubSet) -> bool
         requires { AreLeadsNear self.now }
         ensures { result
-            ≡ (is_level_or_ahead_by (total_by true self.now (clubs_in others)) && is_ahead_by
+            ≡ (is_level_or_ahead_by (total_with true self.now (clubs_in chosen) (clubs_in sure)
+            (clubs_in loose)) && is_ahead_by
             (with_part self.now.rank (lead_by overall_parts self.now.overall))) }
     {
-        is_from_zero(self.total(others, true)) && self.is_tail_above()
+        self.is_tail_above() && is_from_zero(self.total(chosen, sure, loose, true))
     }
 
     // The lead of the two alone with those by third clubs, of which none adds to it if they are
-    // capped.
-    fn total(&self, others: ClubSet, capped: bool) -> Option<Margin>
+    // capped; the loose ones never do.
+    fn total(&self, chosen: ClubSet, sure: ClubSet, loose: ClubSet, capped: bool) -> Option<Margin>
         requires { AreLeadsNear self.now }
-        ensures value { lead_by record_parts result
-            ≡ total_by capped self.now (clubs_in others) }
-        ensures near { IsLeadWithin (400000 * (length (clubs_in others) + 1)) result }
+        ensures { lead_by record_parts result ≡ total_with capped self.now (clubs_in chosen)
+            (clubs_in sure) (clubs_in loose) }
     {
-        if others.is_empty() {
-            return self.pair;
+        let with_chosen = self.added_to(self.pair, chosen, capped);
+        let with_sure = self.added_to(with_chosen, sure, capped);
+        self.added_to(with_sure, loose, true)
+    }
+
+    // The lead with those by third clubs.
+    fn added_to(&self, lead: Option<Margin>, thirds: ClubSet, capped: bool) -> Option<Margin>
+        requires leads { AreLeadsNear self.now }
+        requires near { IsLeadWithin 50000000 lead }
+        ensures value { lead_by record_parts result ≡ total_lead (lead_by record_parts lead)
+            (third_lead capped self.now) (clubs_in thirds) }
+        ensures near { (bound : ℕ) → IsLeadWithin bound lead
+            → IsLeadWithin (bound + 400000 * length (clubs_in thirds)) result }
+    {
+        let mut total = lead;
+        for club in thirds.clubs() {
+            total = with_record(total, self.third(club, capped));
         }
-        let club = others.first_club();
-        let rest = others.without(ClubSet::single(club));
-        added(self.third(club, capped), self.total(rest, capped))
+        total
     }
 
     fn third(&self, club: u8, capped: bool) -> Option<Margin>
@@ -176,4 +206,40 @@ fn by_even(lead: &Margin) -> Ordering
     let by_goals = lead.goals.cmp(&0);
     let by_difference = lead.difference.cmp(&0).then(by_goals);
     lead.points.cmp(&0).then(by_difference)
+}
+
+// Both together in the parts of a head-to-head; the others stay.
+fn with_record(lead: Option<Margin>, other: Option<Margin>) -> Option<Margin>
+    requires near { IsLeadWithin 100000000 lead }
+    requires other_near { IsLeadWithin 100000000 other }
+    ensures value { lead_by record_parts result
+        ≡ added_leads (lead_by record_parts lead) (lead_by record_parts other) }
+    ensures near { (bound more : ℕ) → IsLeadWithin bound lead → IsLeadWithin more other
+        → IsLeadWithin (bound + more) result }
+{
+    match lead {
+        None => None,
+        Some(margin) => match other {
+            None => None,
+            Some(more) => Some(with_parts(margin, &more)),
+        },
+    }
+}
+
+fn with_parts(margin: Margin, more: &Margin) -> Margin
+    requires near { IsMarginWithin 100000000 margin }
+    requires other_near { IsMarginWithin 100000000 more.now }
+    ensures points { result.points ≡ margin.points +ℤ more.now.points }
+    ensures difference { result.difference ≡ margin.difference +ℤ more.now.difference }
+    ensures goals { result.goals ≡ margin.goals +ℤ more.now.goals }
+    ensures away_goals { result.away_goals ≡ margin.away_goals }
+    ensures wins { result.wins ≡ margin.wins }
+    ensures away_wins { result.away_wins ≡ margin.away_wins }
+{
+    Margin {
+        points: margin.points + more.points,
+        difference: margin.difference + more.difference,
+        goals: margin.goals + more.goals,
+        ..margin
+    }
 }

@@ -4,7 +4,7 @@ ghost use Rattle.std.specs.Prelude.{◌≡◌, ◌&&◌, Bool, true, ℕ, List, 
 ghost use Rattle.league_core.specs.declared.zone.Literal.{Literal};
 ghost use Rattle.league_core.specs.game.ClubSets.{clubs_in};
 ghost use Rattle.league_core.specs.game.Sums.{has_club};
-ghost use Rattle.near_laws.specs.SureLeads.{leads_surely};
+ghost use Rattle.near_bound.specs.inside.Decisions.{leads_anyway};
 ghost use Rattle.near_bound.specs.declared.tie.Tie as ties;
 ghost use Rattle.league_core.specs.declared.club_set.ClubSet as sets;
 ghost use Rattle.near_bound.specs.inside.Ties.{IsTie, IsTieIn, fits_of};
@@ -25,6 +25,12 @@ pub struct Wrongs {
 }
 
 impl Wrongs {
+    /// No leads.
+    pub const NONE: Wrongs = Wrongs {
+        behind: None,
+        ahead: None,
+    };
+
     /// Those of a rival.
     pub fn of(tie: &Tie, able: ClubSet, club: u8, rival: u8) -> Wrongs
         requires tie { IsTie tie.now }
@@ -51,18 +57,20 @@ fn leads_if(marked: bool, tie: &Tie, able: ClubSet, front: u8, back: u8) -> Opti
     }
 }
 
-/// The leads, if there are some, decide.
-pub fn decide(leads: &Option<Leads>, others: ClubSet) -> bool
+/// The leads, if there are some, decide in each group with the chosen clubs, with those that surely
+/// join and with any of the loose ones.
+pub fn decide(leads: &Option<Leads>, chosen: ClubSet, sure: ClubSet, loose: ClubSet) -> bool
     requires { MatchOption leads.now (Unit {0}) AreLeadsNear }
     ensures { (tie : ties.Tie) (able : sets.ClubSet) (front back : ℕ) (marked : Bool)
         (zone : List Literal) → IsMarkedLead tie able front back marked leads.now
         → IsTieIn tie zone → HaveFits tie able front back zone
-        → AreOthers able front back (clubs_in others)
-        → result ≡ (marked && leads_surely tie.left.now.sheet.now (fits_of tie zone) front back
-        (clubs_in others)) }
+        → AreOthers able front back (clubs_in chosen) → AreOthers able front back (clubs_in sure)
+        → AreOthers able front back (clubs_in loose)
+        → result ≡ (marked && leads_anyway tie.left.now.sheet.now (fits_of tie zone) front back
+        (clubs_in chosen) (clubs_in sure) (clubs_in loose)) }
 {
     match leads {
         None => false,
-        Some(leads) => leads.decide(others),
+        Some(leads) => leads.decide(chosen, sure, loose),
     }
 }

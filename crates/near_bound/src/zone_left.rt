@@ -6,6 +6,7 @@ ghost use Rattle.league_core.specs.search.Options.{has_finish};
 ghost use Rattle.near_bound.specs.inside.ZonesLeft.{StandsFor};
 
 use crate::match_left::MatchLeft;
+use crate::played::PlayedPart;
 use league_core::{ClubSet, Season, Sheet};
 
 /// What a zone leaves of each fixture, and the rivals that it marks.
@@ -13,6 +14,8 @@ use league_core::{ClubSet, Season, Sheet};
 pub struct ZoneLeft<'a> {
     pub sheet: &'a Sheet,
     pub season: &'a Season,
+    /// What the played matches of the season add up to.
+    pub played: &'a PlayedPart,
     /// One for each fixture, in the order of the sheet.
     pub matches: &'a [MatchLeft],
     /// The rivals marked before the question's club.

@@ -1,35 +1,45 @@
 //! What a box leaves of each match, in the words of the test.
 
-ghost use Rattle.std.specs.Prelude.{◌≡◌, Bool, ◌||◌, IfOk};
+ghost use Rattle.std.specs.Prelude.{◌≡◌, Bool, ◌||◌, [], ◌∷◌};
 ghost use Rattle.league_core.specs.declared.season.Score.{Score};
-ghost use Rattle.league_core.specs.search.Options.{options_in};
 ghost use Rattle.score_box.specs.declared.cell.Cell.{Cell};
 ghost use Rattle.score_box.specs.inside.Cells.{IsScoreRangeOf};
-ghost use Rattle.near_bound.specs.inside.ZonesLeft.{AreLeftOf};
+ghost use Rattle.near_bound.specs.inside.MatchesLeft.{IsLeftOf};
 ghost use Rattle.near_box.specs.inside.CellMatches.{IsLeftOfCell, IsRangeIfAny};
 
-use league_core::OutOfMemory;
+use league_core::Score;
 use near_bound::MatchLeft;
-use score_box::{Cell, ScoreRange, ZoneBox};
-use std::alloc::Global;
+use score_box::{Cell, ScoreRange};
 
-/// What is left of each fixture, in the order of the sheet.
-pub fn matches_left(alloc: Global, zone_box: &ZoneBox) -> Result<Vec<MatchLeft>, OutOfMemory>
-    ensures { IfOk result (λ matches. AreLeftOf matches.items
-        (options_in zone_box.now.sheet zone_box.now.season zone_box.now.zone)) }
+/// No score.
+pub const NOTHING: MatchLeft = MatchLeft {
+    home_win: false,
+    draw: false,
+    away_win: false,
+    home_least: 1,
+    home_most: 0,
+    away_least: 1,
+    away_most: 0,
+};
+
+/// One score alone.
+pub fn only_score(score: Score) -> MatchLeft
+    ensures { IsLeftOf result (score ∷ []) }
 {
-    let _season = zone_box.season();
-    let fixtures = zone_box.sheet().fixtures.len() as u16;
-    let mut matches = Vec::new(alloc);
-    for fixture in 0..fixtures {
-        matches.push(match_left(zone_box.cell(fixture)))?;
+    MatchLeft {
+        home_win: true,
+        draw: true,
+        away_win: true,
+        home_least: score.home,
+        home_most: score.home,
+        away_least: score.away,
+        away_most: score.away,
     }
-    Ok(matches)
 }
 
-// The same scores in other words. Each end of the goals is that of a score which is left, so that
-// no goals in between are outside the cell.
-fn match_left(cell: &Cell) -> MatchLeft
+/// The same scores in other words. Each end of the goals is that of a score which is left, so that
+/// no goals in between are outside the cell.
+pub fn match_left(cell: &Cell) -> MatchLeft
     ensures { IsLeftOfCell result cell.now }
 {
     let home_wins = cell.home_wins();
@@ -45,15 +55,7 @@ fn match_left(cell: &Cell) -> MatchLeft
             away_least: goals.away_least,
             away_most: goals.away_most,
         },
-        None => MatchLeft {
-            home_win: false,
-            draw: false,
-            away_win: false,
-            home_least: 1,
-            home_most: 0,
-            away_least: 1,
-            away_most: 0,
-        },
+        None => NOTHING,
     }
 }
 

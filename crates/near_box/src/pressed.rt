@@ -15,18 +15,8 @@ ghost use Rattle.near_box.specs.inside.Pressed.{is_pressed_in, AreClubsOfBox};
 use league_core::{ClubSet, Question};
 use score_box::{ZoneBox, own_least, own_most};
 
-/// The rivals that are pressed, from behind the question's club or from ahead.
-pub fn pressed(zone_box: &ZoneBox, question: &Question) -> ClubSet
-    requires has_finish { HasFinish zone_box.now }
-    requires of_sheet { IsQuestionOf zone_box.now.sheet question.now }
-    requires of_zone { IsTrue (is_zone_of zone_box.now.sheet zone_box.now.zone) }
-    ensures { IsSetOf result (is_pressed_in zone_box.now question.now) }
-{
-    pressed_from_behind(zone_box, question).union(pressed_from_ahead(zone_box, question))
-}
-
-// Those marked after the club that have at the least what it has at the most.
-fn pressed_from_behind(zone_box: &ZoneBox, question: &Question) -> ClubSet
+/// Those marked after the club that have at the least what it has at the most.
+pub fn pressed_from_behind(zone_box: &ZoneBox, question: &Question) -> ClubSet
     requires has_finish { HasFinish zone_box.now }
     requires of_sheet { IsQuestionOf zone_box.now.sheet question.now }
     requires of_zone { IsTrue (is_zone_of zone_box.now.sheet zone_box.now.zone) }
@@ -36,8 +26,8 @@ fn pressed_from_behind(zone_box: &ZoneBox, question: &Question) -> ClubSet
     with_at_least(zone_box, zone_box.after(), own_most(zone_box, question))
 }
 
-// Those marked before it that have at the most what it has at the least.
-fn pressed_from_ahead(zone_box: &ZoneBox, question: &Question) -> ClubSet
+/// Those marked before it that have at the most what it has at the least.
+pub fn pressed_from_ahead(zone_box: &ZoneBox, question: &Question) -> ClubSet
     requires has_finish { HasFinish zone_box.now }
     requires of_sheet { IsQuestionOf zone_box.now.sheet question.now }
     requires of_zone { IsTrue (is_zone_of zone_box.now.sheet zone_box.now.zone) }
@@ -48,7 +38,7 @@ fn pressed_from_ahead(zone_box: &ZoneBox, question: &Question) -> ClubSet
 }
 
 // The clubs of the set that have so many points or more.
-fn with_at_least(zone_box: &ZoneBox, set: ClubSet, points: i32) -> ClubSet
+pub(crate) fn with_at_least(zone_box: &ZoneBox, set: ClubSet, points: i32) -> ClubSet
     requires has_finish { HasFinish zone_box.now }
     requires of_sheet { AreClubsOfBox zone_box.now set }
     ensures { (rival : ℕ) → has_club (clubs_in result) rival ≡ (has_club (clubs_in set) rival
@@ -68,7 +58,7 @@ fn has_at_least(zone_box: &ZoneBox, rival: u8, points: i32) -> bool
 }
 
 // The clubs of the set that have so many points or fewer.
-fn with_at_most(zone_box: &ZoneBox, set: ClubSet, points: i32) -> ClubSet
+pub(crate) fn with_at_most(zone_box: &ZoneBox, set: ClubSet, points: i32) -> ClubSet
     requires has_finish { HasFinish zone_box.now }
     requires of_sheet { AreClubsOfBox zone_box.now set }
     ensures { (rival : ℕ) → has_club (clubs_in result) rival ≡ (has_club (clubs_in set) rival

@@ -1,7 +1,10 @@
 -- Whether leads decide in a group, by the leads that are kept.
 use Rattle.std.specs.Prelude.{ℕ, Bool, true, false, List, Some}
 use Rattle.near_laws.specs.Leads.{Lead, at_most, total_lead}
-use Rattle.near_laws.specs.SureLeads.{even_record, with_part, decide_by}
+use Rattle.league_core.specs.declared.sheet.Sheet.{Sheet}
+use Rattle.league_core.specs.declared.season.Score.{Score}
+use Rattle.near_laws.specs.SureLeads.{even_record, with_part, decide_by, lead_against, group_lead}
+use Rattle.near_laws.specs.SureLeads.{any_group_lead, first_lead, tail_lead}
 use Rattle.near_bound.specs.declared.leads.Leads.{Leads}
 use Rattle.near_bound.specs.inside.Margins.{lead_by, record_parts, first_parts, overall_parts}
 use Rattle.near_bound.specs.inside.PairLeads.{kept_lead}
@@ -17,8 +20,33 @@ abbrev pub total_by : Bool → Leads → List ℕ → Lead
 total_by capped leads others =
     total_lead (lead_by record_parts leads.pair) (third_lead capped leads) others
 
--- the leads decide in a group with these others
-abbrev pub leads_decide : Leads → List ℕ → Bool
-leads_decide leads others =
-    decide_by leads.order (total_by false leads others) (total_by true leads others)
-    (lead_by first_parts leads.overall) (with_part leads.rank (lead_by overall_parts leads.overall))
+-- of the two alone with those by the chosen clubs and by those that surely join; the loose ones add
+-- nothing
+abbrev pub total_with : Bool → Leads → List ℕ → List ℕ → List ℕ → Lead
+total_with capped leads chosen sure loose =
+    total_lead (total_lead (total_by capped leads chosen) (third_lead capped leads) sure)
+    (third_lead true leads) loose
+
+-- the leads decide in each group with the chosen clubs, with those that surely join and with any of
+-- the loose ones
+abbrev pub leads_decide_anyway : Leads → List ℕ → List ℕ → List ℕ → Bool
+leads_decide_anyway leads chosen sure loose =
+    decide_by leads.order (total_with false leads chosen sure loose)
+    (total_with true leads chosen sure loose) (lead_by first_parts leads.overall)
+    (with_part leads.rank (lead_by overall_parts leads.overall))
+
+-- a lead by a third club that adds nothing
+abbrev pub lead_capped : Sheet → (List ℕ → List (List Score)) → ℕ → ℕ → ℕ → Lead
+lead_capped sheet fits front back rival =
+    Some (at_most even_record (lead_against sheet fits front back rival))
+
+-- of two clubs the one is surely ahead in each such group
+abbrev pub leads_anyway : Sheet → (List ℕ → List (List Score)) → ℕ → ℕ → List ℕ → List ℕ → List ℕ
+    → Bool
+leads_anyway sheet fits front back chosen sure loose =
+    let lead = lead_against sheet fits front back in
+    let capped = lead_capped sheet fits front back in
+    decide_by sheet.order
+    (total_lead (total_lead (group_lead sheet fits front back chosen) lead sure) capped loose)
+    (total_lead (total_lead (any_group_lead sheet fits front back chosen) capped sure) capped loose)
+    (first_lead sheet fits front back) (tail_lead sheet fits front back)

@@ -1,21 +1,23 @@
 -- Groups of clubs that may form on the points of a tie, and the rivals that are surely on the wrong
 -- side in them.
 use Rattle.std.specs.Prelude.{◌≡◌, ◌≢◌, ℕ, ◌<◌, Bool, true, false, ◌&&◌, ◌||◌, List, length, Option}
-use Rattle.std.specs.Prelude.{Some, None, slice_index_or, MatchOption}
+use Rattle.std.specs.Prelude.{Some, None, slice_index_or, ◌==◌, not, filter}
 use Rattle.league_core.specs.declared.club_set.ClubSet.{ClubSet}
 use Rattle.league_core.specs.declared.zone.Literal.{Literal}
 use Rattle.league_core.specs.game.ClubSets.{clubs_in}
 use Rattle.league_core.specs.game.Sums.{has_club}
 use Rattle.std.specs.List.{list_any}
 use Rattle.near_laws.specs.Near.{is_wrong_in}
-use Rattle.near_laws.specs.SureLeads.{leads_surely}
+use Rattle.league_core.specs.search.Zones.{marked_before, marked_after}
 use Rattle.near_bound.specs.declared.tie.Tie.{Tie}
 use Rattle.near_bound.specs.declared.leads.Leads.{Leads}
 use Rattle.near_bound.specs.declared.wrongs.Wrongs.{Wrongs}
+use Rattle.near_bound.specs.declared.lead_table.LeadTable.{LeadTable}
 use Rattle.near_bound.specs.declared.groups.Groups.{Groups}
 use Rattle.near_bound.specs.inside.Ties.{IsTie, IsTieIn, fits_of}
 use Rattle.near_bound.specs.inside.PairLeads.{AreLeadsNear, AreLeadsOf, AreLeadsIn, HaveFits}
 use Rattle.near_bound.specs.inside.PairLeads.{HasFit}
+use Rattle.near_bound.specs.inside.Decisions.{leads_anyway}
 
 -- the leads of one club over another if a mark asks for them, and none if it does not
 abbrev pub IsMarkedLead : Tie → ClubSet → ℕ → ℕ → Bool → Option Leads → Type 0
@@ -37,14 +39,6 @@ abbrev pub AreOthers : ClubSet → ℕ → ℕ → List ℕ → Type 0
 AreOthers able front back others =
     (club : ℕ) → has_club others club ≡ true
     → (has_club (clubs_in able) club ≡ true) × (club ≢ front) × (club ≢ back)
-
--- the rival is on the wrong side in a group with these others
-abbrev pub is_wrong_beside : Tie → List Literal → ℕ → ℕ → List ℕ → Bool
-is_wrong_beside tie zone club rival others =
-    (has_club (clubs_in tie.left.now.after) rival
-    && leads_surely tie.left.now.sheet.now (fits_of tie zone) rival club others)
-    || (has_club (clubs_in tie.left.now.before) rival
-    && leads_surely tie.left.now.sheet.now (fits_of tie zone) club rival others)
 
 -- able rivals of a club, each a club of the sheet
 pub record AreRivals (tie : Tie) (able : ClubSet) (club : ℕ) : Type 0 where
@@ -70,15 +64,19 @@ pub record IsGroups (groups : Groups) : Type 0 where
   pub held_in : AreAmong groups.held groups.able
   pub first_held : has_club (clubs_in groups.held) groups.first ≡ true
 
--- a club's leads in a table, if they are taken
-abbrev pub wrongs_listed : List (Option Wrongs) → ℕ → Option Wrongs
-wrongs_listed table club = slice_index_or table club None
+-- a rival's leads in a table
+abbrev pub wrongs_listed : List Wrongs → ℕ → Wrongs
+wrongs_listed table rival = slice_index_or table rival (record { behind = None; ahead = None })
 
--- what the table has are a rival's leads
-pub record IsLeadTable (groups : Groups) (table : List (Option Wrongs)) : Type 0 where
-  pub long : length table ≡ 32
-  pub each : (rival : ℕ) → MatchOption (wrongs_listed table rival) (Unit {0})
-      (AreWrongs groups.tie.now groups.able groups.club rival)
+-- what the table has are leads of able rivals over a club, or the club's over them
+pub record IsLeadTableOf (tie : Tie) (able : ClubSet) (club : ℕ) (table : LeadTable) : Type 0 where
+  pub long : length table.wrongs ≡ 32
+  pub each : (rival : ℕ) → has_club (clubs_in table.known) rival ≡ true
+      → AreWrongs tie able club rival (wrongs_listed table.wrongs rival)
+
+-- they are those of the groups' rivals
+abbrev pub IsLeadTable : Groups → LeadTable → Type 0
+IsLeadTable groups table = IsLeadTableOf groups.tie.now groups.able groups.club table
 
 -- the zone is of the tie, and its rivals have fit scores
 pub record AreGroupsIn (groups : Groups) (zone : List Literal) : Type 0 where
@@ -94,6 +92,25 @@ wrong_in groups zone group rival =
 -- some rival of it is
 abbrev pub group_is_wrong : Groups → List Literal → List ℕ → Bool
 group_is_wrong groups zone group = list_any (wrong_in groups zone group) group
+
+-- the rival is surely wrong in each group of these chosen clubs, of all held ones that are left and
+-- of any others that are left
+abbrev pub wrong_anyway : Groups → List Literal → List ℕ → List ℕ → ℕ → Bool
+wrong_anyway groups zone chosen left rival =
+    let sheet = groups.tie.now.left.now.sheet.now in
+    let fits = fits_of groups.tie.now zone in
+    let is_other = (λ (other : ℕ). not (other == rival)) in
+    let others = filter is_other chosen in
+    let sure = filter is_other (filter (has_club (clubs_in groups.held)) left) in
+    let loose = filter (λ other. not (has_club (clubs_in groups.held) other)) left in
+    (marked_after zone rival && leads_anyway sheet fits rival groups.club others sure loose)
+    || (marked_before zone rival && leads_anyway sheet fits groups.club rival others sure loose)
+
+-- the rival is in each of these groups
+abbrev pub is_in_each : Groups → ClubSet → ClubSet → ℕ → Bool
+is_in_each groups chosen left rival =
+    has_club (clubs_in chosen) rival
+    || (has_club (clubs_in left) rival && has_club (clubs_in groups.held) rival)
 
 -- the clubs that are chosen come before those that are left
 abbrev pub ComeBefore : ClubSet → ClubSet → Type 0

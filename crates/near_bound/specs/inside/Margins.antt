@@ -1,6 +1,6 @@
 -- Margins: what matches are worth to one club less what they are worth to another, by each of the
 -- six sums. A lead is read off a margin, in the order in which its parts decide.
-use Rattle.std.specs.Prelude.{◌≡◌, ℕ, ℤ, pos, neg_ℤ, ◌≤ℤ◌, Bool, true, false, List, []}
+use Rattle.std.specs.Prelude.{◌≡◌, ℕ, ℤ, pos, neg_ℤ, ◌+ℤ◌, ◌-ℤ◌, ◌≤ℤ◌, Bool, true, false, List, []}
 use Rattle.std.specs.Prelude.{◌∷◌, Option, Some, None}
 use Rattle.league_core.specs.declared.sheet.Fixture.{Fixture}
 use Rattle.league_core.specs.declared.season.Score.{Score}
@@ -38,6 +38,24 @@ pub record IsMarginBy (value : Worth → ℤ) (margin : Margin) : Type 0 where
   pub away_goals : margin.away_goals ≡ value away_goals
   pub wins : margin.wins ≡ value wins
   pub away_wins : margin.away_wins ≡ value away_wins
+
+-- one margin and another make a third
+pub record IsMarginSum (first second sum : Margin) : Type 0 where
+  pub points : sum.points ≡ first.points +ℤ second.points
+  pub difference : sum.difference ≡ first.difference +ℤ second.difference
+  pub goals : sum.goals ≡ first.goals +ℤ second.goals
+  pub away_goals : sum.away_goals ≡ first.away_goals +ℤ second.away_goals
+  pub wins : sum.wins ≡ first.wins +ℤ second.wins
+  pub away_wins : sum.away_wins ≡ first.away_wins +ℤ second.away_wins
+
+-- the one margin less the other is a third
+pub record IsMarginGap (first second gap : Margin) : Type 0 where
+  pub points : gap.points ≡ first.points -ℤ second.points
+  pub difference : gap.difference ≡ first.difference -ℤ second.difference
+  pub goals : gap.goals ≡ first.goals -ℤ second.goals
+  pub away_goals : gap.away_goals ≡ first.away_goals -ℤ second.away_goals
+  pub wins : gap.wins ≡ first.wins -ℤ second.wins
+  pub away_wins : gap.away_wins ≡ first.away_wins -ℤ second.away_wins
 
 -- the number is at most so far from zero
 abbrev pub IsNumberWithin : ℕ → ℤ → Type 0

@@ -1,7 +1,7 @@
 -- The leads of one club over another, as they are kept, and what they are in a zone.
-use Rattle.std.specs.Prelude.{◌≡◌, ◌≢◌, ℕ, ℤ, ◌<◌, pos, neg_ℤ, ◌-ℤ◌, true, List, [], ◌∷◌, length}
-use Rattle.std.specs.Prelude.{slice_index_or, Option, None, IsSome}
-use Rattle.std.specs.Prelude.{◌+◌, drop}
+use Rattle.std.specs.Prelude.{◌≡◌, ◌≢◌, ℕ, ℤ, ◌<◌, pos, neg_ℤ, ◌-ℤ◌, true, false, List, [], ◌∷◌}
+use Rattle.std.specs.Prelude.{length}
+use Rattle.std.specs.Prelude.{slice_index_or, map, Option, Some, None, IsSome}
 use Rattle.league_core.specs.declared.club_set.ClubSet.{ClubSet}
 use Rattle.league_core.specs.declared.zone.Literal.{Literal}
 use Rattle.league_core.specs.game.Ahead.{rank_of}
@@ -10,36 +10,53 @@ use Rattle.league_core.specs.game.Sums.{has_club, worth_to, worth_among}
 use Rattle.league_core.specs.declared.sheet.Fixture.{Fixture}
 use Rattle.league_core.specs.declared.season.Score.{Score}
 use Rattle.near_laws.specs.Fits.{have_fit}
-use Rattle.near_laws.specs.Leads.{Lead, added_leads, least_lead, margins, worth_against}
+use Rattle.near_laws.specs.Leads.{Lead, added_leads, numbers_at, least_of, least_lead, margins}
+use Rattle.near_laws.specs.Leads.{worth_against}
 use Rattle.near_laws.specs.SureLeads.{pair_lead, lead_against, first_lead, overall_worths}
 use Rattle.near_laws.specs.SureLeads.{record_worths, first_worths}
 use Rattle.near_bound.specs.declared.match_left.MatchLeft.{MatchLeft}
 use Rattle.near_bound.specs.declared.margin.Margin.{Margin}
+use Rattle.near_bound.specs.declared.played.PlayedPart.{PlayedPart}
 use Rattle.near_bound.specs.declared.tie.Tie.{Tie}
 use Rattle.near_bound.specs.declared.leads.Leads.{Leads}
 use Rattle.near_bound.specs.inside.Margins.{lead_by, record_parts, first_parts, overall_parts}
-use Rattle.near_bound.specs.inside.Margins.{IsLeadWithin}
+use Rattle.near_bound.specs.inside.Margins.{IsLeadWithin, IsLeastMargin, IsMarginGap}
 use Rattle.near_bound.specs.inside.MatchesLeft.{IsLeftOf}
-use Rattle.near_bound.specs.inside.Ties.{IsTieIn, fits_of}
+use Rattle.near_bound.specs.inside.PlayedParts.{club_margin, pair_margin}
+use Rattle.near_bound.specs.inside.Ties.{IsTieIn, fits_of, match_at}
 
 -- the club's fit scores leave none of its matches without one
 abbrev pub HasFit : Tie → List Literal → ℕ → Type 0
 HasFit tie zone club =
     have_fit tie.left.now.sheet.now tie.left.now.season.now zone tie.points (club ∷ []) ≡ true
 
+-- a match of a list by its number
+abbrev pub match_listed : List Fixture → ℕ → Fixture
+match_listed matches fixture = slice_index_or matches fixture (record { home = 0; away = 0 })
+
+-- the least of each of these fixtures, added
+abbrev pub lead_over : List (Fixture → Score → ℤ) → List Fixture → List (List Score) → List ℕ
+    → Lead
+lead_over values matches options [] = Some (map (λ value. pos 0) values)
+lead_over values matches options (fixture ∷ fixtures) =
+    added_leads
+    (least_of (numbers_at values (match_listed matches fixture))
+    (slice_index_or options fixture []))
+    (lead_over values matches options fixtures)
+
 -- the lead so far, with that of the fixtures to come, is the whole one
-abbrev pub IsLeadSoFar : List (Fixture → Score → ℤ) → List Fixture → List (List Score) → ℕ → Lead
-    → Type 0
-IsLeadSoFar values matches options count lead =
-    added_leads lead (least_lead values (drop count matches) (drop count options))
+abbrev pub IsLeadSoFar : List (Fixture → Score → ℤ) → List Fixture → List (List Score) → List ℕ
+    → Lead → Type 0
+IsLeadSoFar values matches options fixtures lead =
+    added_leads lead (lead_over values matches options fixtures)
     ≡ least_lead values matches options
 
--- from a lead over so many fixtures to one over one fixture more
+-- from a lead before a fixture to one with it
 abbrev pub LeadGoesOn : List (Fixture → Score → ℤ) → List Fixture → List (List Score) → ℕ → Lead
     → Lead → Type 0
-LeadGoesOn values matches options count old new =
-    IsLeadSoFar values matches options count old
-    → IsLeadSoFar values matches options (count + 1) new
+LeadGoesOn values matches options fixture old new =
+    (fixtures : List ℕ) → IsLeadSoFar values matches options (fixture ∷ fixtures) old
+    → IsLeadSoFar values matches options fixtures new
 
 -- a lead in a table
 abbrev pub kept_lead : List (Option Margin) → ℕ → Option Margin
@@ -92,11 +109,23 @@ pub record AreLeadsOf (tie : Tie) (front back : ℕ) (leads : Leads) : Type 0 wh
       -ℤ neg_ℤ (pos (rank_of tie.left.now.sheet.now back))
   pub order : leads.order ≡ tie.left.now.sheet.now.order
 
--- what is fit for both
-abbrev pub IsFitForBoth : Tie → ℕ → ℕ → ℕ → MatchLeft → Type 0
-IsFitForBoth tie fixture front back left =
-    (zone : List Literal) → IsTieIn tie zone
-    → IsLeftOf left (slice_index_or (fits_of tie zone (front ∷ back ∷ [])) fixture [])
+-- each of these clubs has fit scores
+abbrev pub HaveEach : Tie → List Literal → List ℕ → Type 0
+HaveEach tie zone [] = Unit {0}
+HaveEach tie zone (club ∷ clubs) = HasFit tie zone club × HaveEach tie zone clubs
+
+-- what is fit for each of these clubs, which have fit scores
+abbrev pub IsFitForEach : Tie → ℕ → List ℕ → MatchLeft → Type 0
+IsFitForEach tie fixture clubs left =
+    (zone : List Literal) → IsTieIn tie zone → HaveEach tie zone clubs
+    → IsLeftOf left (slice_index_or (fits_of tie zone clubs) fixture [])
+
+-- the least margin over what is fit for each of these clubs
+abbrev pub IsLeastFor : Tie → ℕ → ℕ → ℕ → List ℕ → Option Margin → Type 0
+IsLeastFor tie fixture front back clubs least =
+    (zone : List Literal) → IsTieIn tie zone → HaveEach tie zone clubs
+    → IsLeastMargin (match_at tie fixture)
+    (slice_index_or (fits_of tie zone clubs) fixture []) front back least
 
 -- some score of each match is fit for both
 abbrev pub HaveCommonFit : Tie → List Literal → ℕ → ℕ → Type 0
@@ -104,33 +133,61 @@ HaveCommonFit tie zone front back =
     have_fit tie.left.now.sheet.now tie.left.now.season.now zone tie.points (front ∷ back ∷ [])
     ≡ true
 
--- the leads by third clubs over so many fixtures, the first ones
-abbrev pub AreAgainstSoFar : Tie → ClubSet → ℕ → ℕ → List Literal → ℕ → List (Option Margin)
-    → Type 0
-AreAgainstSoFar tie able front back zone count table =
+-- the leads by third clubs, with these fixtures to come
+abbrev pub AreAgainstSoFar : Tie → ClubSet → ℕ → ℕ → List Literal → List ℕ
+    → List (Option Margin) → Type 0
+AreAgainstSoFar tie able front back zone fixtures table =
     HaveCommonFit tie zone front back → (rival : ℕ) → has_club (clubs_in able) rival ≡ true
     → rival ≢ front → rival ≢ back
     → IsLeadSoFar (margins (worth_against rival) record_worths front back)
-    tie.left.now.sheet.now.fixtures (fits_of tie zone (front ∷ back ∷ rival ∷ [])) count
+    tie.left.now.sheet.now.fixtures (fits_of tie zone (front ∷ back ∷ rival ∷ [])) fixtures
     (lead_by record_parts (kept_lead table rival))
 
--- all leads over them
+-- all leads
 pub record AreLeadsSoFar (tie : Tie) (able : ClubSet) (front back : ℕ) (zone : List Literal)
-    (count : ℕ) (leads : Leads) : Type 0 where
+    (fixtures : List ℕ) (leads : Leads) : Type 0 where
   pub pair : IsLeadSoFar (margins (worth_among (front ∷ back ∷ [])) record_worths front back)
-      tie.left.now.sheet.now.fixtures (fits_of tie zone (front ∷ back ∷ [])) count
+      tie.left.now.sheet.now.fixtures (fits_of tie zone (front ∷ back ∷ [])) fixtures
       (lead_by record_parts leads.pair)
   pub first : IsLeadSoFar (margins worth_to first_worths front back)
-      tie.left.now.sheet.now.fixtures (fits_of tie zone (front ∷ back ∷ [])) count
+      tie.left.now.sheet.now.fixtures (fits_of tie zone (front ∷ back ∷ [])) fixtures
       (lead_by first_parts leads.overall)
   pub overall : IsLeadSoFar (margins worth_to overall_worths front back)
-      tie.left.now.sheet.now.fixtures (fits_of tie zone (front ∷ back ∷ [])) count
+      tie.left.now.sheet.now.fixtures (fits_of tie zone (front ∷ back ∷ [])) fixtures
       (lead_by overall_parts leads.overall)
-  pub against : AreAgainstSoFar tie able front back zone count leads.against
+  pub against : AreAgainstSoFar tie able front back zone fixtures leads.against
 
 -- they take one fixture more
 abbrev pub LeadsTake : Tie → ClubSet → ℕ → ℕ → ℕ → Leads → Leads → Type 0
 LeadsTake tie able front back fixture old new =
     (zone : List Literal) → IsTieIn tie zone → HaveFits tie able front back zone
-    → AreLeadsSoFar tie able front back zone fixture old
-    → AreLeadsSoFar tie able front back zone (fixture + 1) new
+    → (fixtures : List ℕ) → AreLeadsSoFar tie able front back zone (fixture ∷ fixtures) old
+    → AreLeadsSoFar tie able front back zone fixtures new
+
+-- the one margin less the other
+abbrev pub IsLessOf : Margin → Margin → Option Margin → Type 0
+IsLessOf first second None = ⊥
+IsLessOf first second (Some gap) = IsMarginGap first second gap
+
+-- what is played in the season
+abbrev pub played_in : Tie → PlayedPart
+played_in tie = tie.left.now.played.now
+
+-- the leads by the played matches with third clubs of the set
+pub record AreStartsAgainst (tie : Tie) (able : ClubSet) (front back : ℕ)
+    (table : List (Option Margin)) : Type 0 where
+  pub rows : (rival : ℕ) → has_club (clubs_in able) rival ≡ true
+      → IsLessOf (pair_margin (played_in tie) front rival) (pair_margin (played_in tie) back rival)
+      (kept_lead table rival)
+  pub others : (rival : ℕ) → has_club (clubs_in able) rival ≡ false
+      → kept_lead table rival ≡ None
+  pub long : length table ≡ 32
+
+-- the leads by the played matches
+pub record AreStarts (tie : Tie) (able : ClubSet) (front back : ℕ) (leads : Leads) : Type 0 where
+  pub pair : IsLessOf (pair_margin (played_in tie) front back)
+      (pair_margin (played_in tie) back front) leads.pair
+  pub overall : IsLessOf (club_margin (played_in tie) front) (club_margin (played_in tie) back)
+      leads.overall
+  pub against : AreStartsAgainst tie able front back leads.against
+  pub of_tie : AreLeadsOf tie front back leads

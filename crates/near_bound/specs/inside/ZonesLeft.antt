@@ -11,6 +11,7 @@ use Rattle.league_core.specs.search.Zones.{marked_before, marked_after}
 use Rattle.near_bound.specs.declared.match_left.MatchLeft.{MatchLeft}
 use Rattle.near_bound.specs.declared.zone_left.ZoneLeft.{ZoneLeft}
 use Rattle.near_bound.specs.inside.MatchesLeft.{IsLeftOf}
+use Rattle.near_bound.specs.inside.PlayedParts.{IsPlayedPart}
 
 -- for each fixture what is left of it
 pub record AreLeftOf (matches : List MatchLeft) (options : List (List Score)) : Type 0 where
@@ -18,9 +19,10 @@ pub record AreLeftOf (matches : List MatchLeft) (options : List (List Score)) : 
   pub each : (k : ℕ) (d : MatchLeft) → k < length matches
       → IsLeftOf (slice_index_or matches k d) (slice_index_or options k [])
 
--- a sheet with a season of it, and something left for each fixture
+-- a sheet with a season of it, what is played in this, and something left for each fixture
 pub record IsZoneLeft (left : ZoneLeft) : Type 0 where
   pub league : IsLeague left.sheet.now left.season.now
+  pub played : IsPlayedPart left.sheet.now left.season.now left.played.now
   pub many : length left.matches.now ≡ length left.sheet.now.fixtures
 
 -- the set has the rivals that the zone marks so

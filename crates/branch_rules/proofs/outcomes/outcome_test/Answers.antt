@@ -2,7 +2,7 @@ use Rattle.std.proofs.Common.{◌<◌, IsTrue, List, ℕ, length, get_or, subst,
 use Rattle.league_core.specs.search.Options.{has_one_outcome}
 use Rattle.league_core.specs.search.Splits.{are_outcomes_fixed}
 use Rattle.branch_rules.specs.inside.Choices.{options_at_fixture}
-use Rattle.branch_rules.proofs.RatedLemmas.{test_of_none, none_with_this}
+use Rattle.branch_rules.proofs.RatedLemmas.{if_there_is_none, none_with_this}
 use Rattle.branch_rules.proofs.OutcomeTestLemmas.{outcomes_fixed}
 use Rattle.branch_rules.proofs.outcomes.outcome_test.Goals as goal
 use Rattle.score_box.proofs.SplitLemmas.{unplayed_in_range}
@@ -26,9 +26,7 @@ loop-i-preserved c = (
 pub returns-clause-none : goal.returns-clause-none
 returns-clause-none c =
     let b = c.args.zone_box.now in
-    test_of_none c.loop-i.best c.test_of-2.result (IsTrue (are_outcomes_fixed b.sheet b.season
-    b.zone))
-    c.test_of-2.ensures (λ is.
+    if_there_is_none c.loop-i.best (IsTrue (are_outcomes_fixed b.sheet b.season b.zone)) (λ is.
     outcomes_fixed b.sheet b.season b.zone (λ j within.
     let long = ap (λ (xs : List ℕ). length xs) c.unplayed-unplayed.ensures in
     subst (λ (xs : List ℕ). IsTrue (has_one_outcome (options_at_fixture b (get_or xs j 0))))

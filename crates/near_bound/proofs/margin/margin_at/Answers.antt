@@ -1,5 +1,14 @@
-use Rattle.near_bound.proofs.MarginLemmas.{within_gap}
+use Rattle.std.proofs.Common.{arith}
+use Rattle.near_bound.proofs.MarginLemmas.{within_gap, margin_wider}
 use Rattle.near_bound.proofs.margin.margin_at.Goals as goal
+
+pub less-requires-clause-near : goal.less-requires-clause-near
+less-requires-clause-near c =
+    margin_wider 255 100000000 c.worth_to.result (omega arith) c.worth_to.ensures.near
+
+pub less-requires-clause-other_near : goal.less-requires-clause-other_near
+less-requires-clause-other_near c =
+    margin_wider 255 100000000 c.worth_to-2.result (omega arith) c.worth_to-2.ensures.near
 
 pub returns-clause-near : goal.returns-clause-near
 returns-clause-near c =

@@ -7,8 +7,8 @@ use Rattle.league_core.proofs.ClubCountLemmas.{member_below}
 use Rattle.near_laws.specs.Groups.{groups_with}
 use Rattle.near_bound.specs.inside.GroupsLeft.{group_is_wrong}
 use Rattle.near_bound.proofs.GroupSetLemmas.{first_and_rest, with_last}
-use Rattle.near_bound.proofs.GroupWalkLemmas.{all_of_more, goes_without, goes_with}
-use Rattle.near_bound.proofs.GroupWalkLemmas.{rest_after}
+use Rattle.near_bound.proofs.GroupWalkLemmas.{all_of_more, all_of_none, goes_without}
+use Rattle.near_bound.proofs.GroupWalkLemmas.{goes_with, rest_after}
 use Rattle.near_bound.proofs.groups.Groups.+are_wrong_with.Goals as goal
 
 pub are_wrong_with-requires : goal.are_wrong_with-requires
@@ -20,7 +20,7 @@ are_wrong_with-requires t c =
       (
         c.requires.groups,
         (
-          c.requires.kept,
+          c.has_wrong.ensures.kept,
           goes_with c.args.self.now c.args.chosen c.with_if-more.result c.args.left
               c.without-rest.result
               c.first_club-club.result c.requires.go_on splits c.with_if-more.ensures
@@ -39,7 +39,7 @@ are_wrong_with-requires-2 t c =
       (
         c.requires.groups,
         (
-          c.requires.kept,
+          c.has_wrong.ensures.kept,
           goes_without c.args.self.now c.args.chosen c.args.left c.without-rest.result
               c.first_club-club.result c.requires.go_on splits (sym c.has.ensures ∙ c.if-has.false),
         ),
@@ -64,6 +64,18 @@ are_wrong_with-requires-then-are_wrong_with t c =
         ),
       ),
     )
+
+pub returns-then-has_wrong-clause-value : goal.returns-then-has_wrong-clause-value
+returns-then-has_wrong-clause-value t c = λ zone are.
+    sym (c.has_wrong.ensures.anyway zone are c.if-has_wrong.true)
+
+pub returns-then-is_empty-clause-value : goal.returns-then-is_empty-clause-value
+returns-then-is_empty-clause-value t c = λ zone are.
+    let none = c.is_empty.ensures.0 c.if-is_empty.true in
+    sym c.if-has_wrong.false
+    ∙ c.has_wrong.ensures.alone zone are none
+    ∙ all_of_none (group_is_wrong c.args.self.now zone) (clubs_in c.args.chosen)
+    (clubs_in c.args.left) (has_club (clubs_in c.args.self.now.held)) none
 
 pub returns-then-has-clause-value : goal.returns-then-has-clause-value
 returns-then-has-clause-value t c = λ zone are.

@@ -1,10 +1,10 @@
-use Rattle.std.proofs.Common.{◌∷◌, [], ◌+◌, get_or, sym, ◌∙◌, arith}
+use Rattle.std.proofs.Common.{◌∷◌, [], ◌+◌, List, get_or, sym, ◌∙◌, subst, arith}
 use Rattle.std.proofs.lemmas.List.{length-set}
 use Rattle.league_core.specs.declared.sheet.Fixture.{Fixture}
+use Rattle.near_bound.specs.inside.Margins.{IsLeastMargin}
 use Rattle.near_bound.specs.inside.Ties.{fits_of}
 use Rattle.near_bound.specs.inside.PairLeads.{kept_lead}
 use Rattle.near_bound.proofs.MarginLemmas.{lead_wider}
-use Rattle.near_bound.proofs.TieLemmas.{whole_left, one_after_two}
 use Rattle.near_bound.proofs.ThirdTableLemmas.{third_near}
 use Rattle.near_bound.proofs.MatchLeadLemmas.{match_there, one_is, passes_by, takes_both, takes_one}
 use Rattle.near_bound.proofs.MatchLeadLemmas.{third_left_out, third_taken, leads_wider}
@@ -39,7 +39,7 @@ returns-then-are_both-clause-takes c = λ zone is fits.
     c.as_slice.ensures c.of-sides.ensures.home c.of-sides.ensures.away in
     let least = c.least_margin-least.ensures.least
     (get_or (fits_of tie zone (c.args.front ∷ c.args.back ∷ [])) c.args.fixture [])
-    (c.fit_both-fit.ensures zone is) in
+    (c.fit_both-fit.ensures zone is (fits.front_fits, (fits.back_fits, tt))) in
     takes_both tie c.args.able c.args.front c.args.back zone c.args.fixture teams d home away
     c.args.leads.now c.least_margin-least.result c.added-leads-then-are_both.result
     c.added-leads.result at (sym c.are_both.ensures ∙ c.if-are_both.true) least
@@ -57,8 +57,23 @@ returns-then-are_both-clause-near c = λ bound near. record {
       (near.against club);
 }
 
+pub least_with-by_third-requires-clause-third : goal.least_with-by_third-requires-clause-third
+least_with-by_third-requires-clause-third c =
+    c.requires.clubs.of_sheet c.other-third.result (sym c.has.ensures ∙ c.if-has.true)
+
+pub least_with-by_third-requires-clause-least : goal.least_with-by_third-requires-clause-least
+least_with-by_third-requires-clause-least c = λ zone is have.
+    let d : Fixture = record { home = 0; away = 0 } in
+    let both = c.args.front ∷ c.args.back ∷ [] in
+    subst (λ (fs : List Fixture). IsLeastMargin (get_or fs c.args.fixture d)
+    (get_or (fits_of c.args.self.now zone both) c.args.fixture []) c.args.front c.args.back
+    c.least_margin-least.result) c.as_slice.ensures
+    (c.least_margin-least.ensures.least
+    (get_or (fits_of c.args.self.now zone both) c.args.fixture [])
+    (c.fit_both-fit.ensures zone is have))
+
 pub returns-then-has-clause-takes : goal.returns-then-has-clause-takes
-returns-then-has-clause-takes c = λ zone is fits so_far.
+returns-then-has-clause-takes c = λ zone is fits fixtures so_far.
     let tie = c.args.self.now in
     let d : Fixture = record { home = 0; away = 0 } in
     let teams = get_or c.as_slice.result.now c.args.fixture d in
@@ -69,30 +84,30 @@ returns-then-has-clause-takes c = λ zone is fits so_far.
     c.as_slice.ensures c.of-sides.ensures.home c.of-sides.ensures.away in
     let least = c.least_margin-least.ensures.least
     (get_or (fits_of tie zone (c.args.front ∷ c.args.back ∷ [])) c.args.fixture [])
-    (c.fit_both-fit.ensures zone is) in
+    (c.fit_both-fit.ensures zone is (fits.front_fits, (fits.back_fits, tt))) in
     let one = one_is home away (sym c.are_any.ensures ∙ c.if-not-are_any.false)
     (sym c.are_both.ensures ∙ c.if-are_both.false) in
     let third = c.other-third.result in
     let all = c.args.front ∷ c.args.back ∷ third ∷ [] in
+    let among = sym c.has.ensures ∙ c.if-has.true in
     takes_one tie c.args.able c.args.front c.args.back zone c.args.fixture teams d home away
     c.args.leads.now c.least_margin-least.result c.added-leads.result _ at one least
-    c.added-leads.ensures.first_lead c.added-leads.ensures.overall_lead
+    c.added-leads.ensures.first_lead c.added-leads.ensures.overall_lead fixtures
     (third_taken tie c.args.able c.args.front c.args.back zone c.args.fixture teams d home away
-    third c.args.leads.now.against c.least_margin-by_third.result c.added.result at one
+    third c.args.leads.now.against c.least_with-by_third.result c.added.result at one
     c.other-third.ensures
     (omega (
       arith,
-      c.requires.clubs.of_sheet third (sym c.has.ensures ∙ c.if-has.true),
+      c.requires.clubs.of_sheet third among,
       c.requires.tie.left.league.limits.most_clubs,
       c.requires.near.long,
     ))
-    (c.least_margin-by_third.ensures.least (get_or (fits_of tie zone all) c.args.fixture [])
-    (whole_left tie.left.now zone tie.points c.args.fixture (c.args.front ∷ c.args.back ∷ [])
-    (third ∷ []) all d c.fit_both-fit.result c.fit.result c.shared-fit_all.result
-    c.requires.tie.left is.stands c.requires.of_sheet
-    (λ test. one_after_two (test c.args.front) (test c.args.back) (test third))
-    (c.fit_both-fit.ensures zone is) (c.fit.ensures zone is) c.shared-fit_all.ensures))
-    c.added.ensures.record_lead so_far.against) so_far
+    (subst (λ (fs : List Fixture). IsLeastMargin (get_or fs c.args.fixture d)
+    (get_or (fits_of tie zone all) c.args.fixture []) c.args.front c.args.back
+    c.least_with-by_third.result) (sym c.as_slice.ensures)
+    (c.least_with-by_third.ensures.least zone is
+    (fits.front_fits, (fits.back_fits, (fits.each_fits third among, tt)))))
+    c.added.ensures.record_lead fixtures so_far.against) so_far
 
 pub returns-then-has-clause-near : goal.returns-then-has-clause-near
 returns-then-has-clause-near c = λ bound near. record {
@@ -107,11 +122,11 @@ returns-then-has-clause-near c = λ bound near. record {
         near.long,
       )) near.against
       (c.added.ensures.near bound 510 (near.against c.other-third.result)
-      c.least_margin-by_third.ensures.near);
+      c.least_with-by_third.ensures.near);
 }
 
 pub returns-else-has-clause-takes : goal.returns-else-has-clause-takes
-returns-else-has-clause-takes c = λ zone is fits so_far.
+returns-else-has-clause-takes c = λ zone is fits fixtures so_far.
     let tie = c.args.self.now in
     let d : Fixture = record { home = 0; away = 0 } in
     let teams = get_or c.as_slice.result.now c.args.fixture d in
@@ -122,15 +137,15 @@ returns-else-has-clause-takes c = λ zone is fits so_far.
     c.as_slice.ensures c.of-sides.ensures.home c.of-sides.ensures.away in
     let least = c.least_margin-least.ensures.least
     (get_or (fits_of tie zone (c.args.front ∷ c.args.back ∷ [])) c.args.fixture [])
-    (c.fit_both-fit.ensures zone is) in
+    (c.fit_both-fit.ensures zone is (fits.front_fits, (fits.back_fits, tt))) in
     let one = one_is home away (sym c.are_any.ensures ∙ c.if-not-are_any.false)
     (sym c.are_both.ensures ∙ c.if-are_both.false) in
     takes_one tie c.args.able c.args.front c.args.back zone c.args.fixture teams d home away
     c.args.leads.now c.least_margin-least.result c.added-leads.result c.args.leads.now.against at
-    one least c.added-leads.ensures.first_lead c.added-leads.ensures.overall_lead
+    one least c.added-leads.ensures.first_lead c.added-leads.ensures.overall_lead fixtures
     (third_left_out tie c.args.able c.args.front c.args.back zone c.args.fixture teams d home away
     c.other-third.result c.args.leads.now.against at one c.other-third.ensures
-    (sym c.has.ensures ∙ c.if-has.false) so_far.against) so_far
+    (sym c.has.ensures ∙ c.if-has.false) fixtures so_far.against) so_far
 
 pub returns-else-has-clause-near : goal.returns-else-has-clause-near
 returns-else-has-clause-near c = λ bound near. record {
