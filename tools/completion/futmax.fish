@@ -1,7 +1,7 @@
 # Completion of the words of `futmax` in fish; tools/completion/make writes it.
 
 complete -c futmax -f -n __fish_use_subcommand -a verdicts -d 'who has clinched, who has lost, and who can still have either'
-complete -c futmax -f -n __fish_use_subcommand -a decide -d 'the same by one thread, with a reason more: fewer rows stay unsettled'
+complete -c futmax -f -n __fish_use_subcommand -a decide -d 'the same by one thread, with a reason more: as a rule fewer rows unsettled'
 complete -c futmax -f -n __fish_use_subcommand -a whatif -d 'what is decided if a match ends in a home win, a draw or an away win'
 complete -c futmax -f -n __fish_use_subcommand -a table -d 'the table of the matches played'
 complete -c futmax -f -n __fish_use_subcommand -a scores -d 'how many points are enough, and how many are too few'

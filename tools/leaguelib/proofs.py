@@ -1,7 +1,7 @@
 """A proof in steps that a reader can add up: each supposes something and shows it cannot be.
 
-Nothing here tests a proof: that is the work of the program's mode `check`. Only proofs which it
-has accepted are put into words.
+Nothing here tests a proof: that is the work of the program's modes `check` and `decide_check`. Only
+proofs which one of them has accepted are put into words.
 """
 
 from __future__ import annotations
