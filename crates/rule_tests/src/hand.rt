@@ -1,7 +1,7 @@
 //! Choices of questions with the full window, worked by hand: C is asked about the first place.
 
-use crate::help::{asked, behind, check};
-use league_core::{Claim, Literal, Test};
+use crate::help::{asked, behind, check, chosen};
+use league_core::{Claim, ClubSet, Literal, Test};
 use std::alloc::Global;
 use std::process::Abort;
 use std::test::Fail;
@@ -59,6 +59,17 @@ fn outcomes_are_split_by_the_points_of_rivals_behind(rt: HostRuntime) -> Result<
     full(&rt, rt.alloc(), BREAKS, &zone, Test::Home { fixture: 5 })?;
     full(&rt, rt.alloc(), LEVEL, &zone, Test::Home { fixture: 6 })?;
     full(&rt, rt.alloc(), LATER, &zone, Test::Home { fixture: 6 })
+}
+
+// If X cannot end level with C, its home win ends what is left of a half, and its match comes first.
+#[test]
+fn a_rival_that_cannot_end_level_comes_first(rt: HostRuntime) -> Result<(), Fail> {
+    let zone = [behind(1), behind(2), behind(3)];
+    let question = asked(Claim::Inside, -99, 1800);
+    let barred = ClubSet::single(1);
+    let literal = chosen(&rt, rt.alloc(), LEVEL, &question, &zone, barred)?;
+    assert_eq!(rt; literal.test, Test::Home { fixture: 5 });
+    Ok(())
 }
 
 fn of_goals(

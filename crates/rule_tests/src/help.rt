@@ -8,9 +8,9 @@ ghost use Rattle.league_core.specs.game.Seasons.{IsLeague};
 ghost use Rattle.league_core.specs.search.Zones.{is_zone_of, is_test_of, is_of_rival, IsZoneFor};
 ghost use Rattle.league_core.specs.search.Zones.{marked_before, marked_after};
 
-use branch_rules::{choose, work, work_with};
+use branch_rules::{choose, choose_seeing, work, work_with};
 use flow_bound::FlowKeep;
-use league_core::{Claim, Listing, Literal, OutOfMemory, Question, Sheet, Test, Zone};
+use league_core::{Claim, ClubSet, Listing, Literal, OutOfMemory, Question, Sheet, Test, Zone};
 use reason_core::{Done, Piece};
 use sample_leagues::{Sample, sample_of};
 use score_box::{Played, ZoneBox};
@@ -51,18 +51,22 @@ pub fn check(
     zone: &[Literal],
     wanted: Test,
 ) -> Result<(), Fail> {
-    let literal = chosen(rt, alloc, text, question, zone)?;
-    let again = chosen(rt, alloc, text, question, zone)?;
+    let literal = chosen(rt, alloc, text, question, zone, ClubSet::empty())?;
+    let again = chosen(rt, alloc, text, question, zone, ClubSet::empty())?;
     assert_eq!(rt; literal.test, wanted);
     assert!(rt; literal.yes && literal == again);
     Ok(())
 }
 
-fn choice_in(rt: &impl Abort, zone_box: &ZoneBox, question: &Question) -> Literal {
+fn choice_in(rt: &impl Abort, zone_box: &ZoneBox, question: &Question, barred: ClubSet) -> Literal {
     assert!(rt; (question.club as usize) < zone_box.sheet().clubs.len());
     assert!(rt; zone_box.has_finish());
     assert!(rt; !zone_box.is_single());
-    choose(zone_box, question)
+    if barred.is_empty() {
+        choose(zone_box, question)
+    } else {
+        choose_seeing(zone_box, question, barred).literal
+    }
 }
 
 fn chosen_after(
@@ -70,11 +74,12 @@ fn chosen_after(
     zone_box: &mut ZoneBox,
     question: &Question,
     zone: &[Literal],
+    barred: ClubSet,
 ) -> Result<Literal, Fail> {
     for literal in zone {
         go_on(rt, zone_box, *literal)?;
     }
-    Ok(choice_in(rt, zone_box, question))
+    Ok(choice_in(rt, zone_box, question, barred))
 }
 
 fn chosen_over(
@@ -83,9 +88,10 @@ fn chosen_over(
     played: &Played,
     question: &Question,
     zone: &[Literal],
+    barred: ClubSet,
 ) -> Result<Literal, Fail> {
     let mut zone_box = ZoneBox::over(alloc, played, &[])?;
-    chosen_after(rt, &mut zone_box, question, zone)
+    chosen_after(rt, &mut zone_box, question, zone, barred)
 }
 
 fn chosen_in(
@@ -94,22 +100,25 @@ fn chosen_in(
     sample: &Sample,
     question: &Question,
     zone: &[Literal],
+    barred: ClubSet,
 ) -> Result<Literal, Fail>
     requires { IsLeague sample.now.sheet sample.now.season }
 {
     let played = Played::of(alloc, &sample.sheet, &sample.season)?;
-    chosen_over(rt, alloc, &played, question, zone)
+    chosen_over(rt, alloc, &played, question, zone, barred)
 }
 
-fn chosen(
+/// What is chosen in a zone of a league if these rivals are known not to end level with the club.
+pub fn chosen(
     rt: &impl Abort,
     alloc: Global,
     text: &[u8],
     question: &Question,
     zone: &[Literal],
+    barred: ClubSet,
 ) -> Result<Literal, Fail> {
     let sample = sample_of(alloc, text).ok_or("no league")?;
-    chosen_in(rt, alloc, &sample, question, zone)
+    chosen_in(rt, alloc, &sample, question, zone, barred)
 }
 
 /// Puts a literal at the end of the box's zone.
