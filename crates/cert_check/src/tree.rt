@@ -17,6 +17,7 @@ use crate::ranges::may_refute;
 use crate::report::Report;
 use crate::stop::CheckStopAt;
 use check_bounds::Trail;
+use check_near::has_near_on;
 use league_core::{Literal, Question, Test};
 use line_tokens::{Token, TreeKind, is_test_for, wide_node_of};
 use wide_lines::{WideNode, WideReason};
@@ -151,7 +152,7 @@ impl<'a> Report<'a> {
     {
         match reason {
             WideReason::Plain(reason) => path.holds(question, reason),
-            WideReason::Near(rival) => path.has_near(question, rival),
+            WideReason::Near(rival) => has_near_on(path, question, rival),
         }
     }
 

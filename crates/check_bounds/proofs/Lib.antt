@@ -1,6 +1,6 @@
 -- Lemmas on one notion each: ranges of sums, tables of them, domains of a zone, extremes, what they
 -- give, what a reason says over them, rivals counted by sets, steps of answers, match points that
--- change, cells, rounds, ways, and domains for the near reason.
+-- change, cells, rounds and ways.
 pub mod IntRangeLemmas
 pub mod TableLemmas
 pub mod WalkLemmas
@@ -16,4 +16,3 @@ pub mod OpenCountLemmas
 pub mod CellLemmas
 pub mod TieRoundLemmas
 pub mod TrailLemmas
-pub mod MatchesOverLemmas

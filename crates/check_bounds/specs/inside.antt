@@ -1,7 +1,7 @@
 -- Reading order: the scores that a fixture may still end with, what is looked at in them, the few
 -- scores that bound all others, what a zone leaves of each fixture, sums and tables of them, what
--- is kept of them from zone to zone, what is sure of each rival, what a reason then says, what is
--- left of a key, and domains for the near reason.
+-- is kept of them from zone to zone, what is sure of each rival, what a reason then says, and what
+-- is left of a key.
 pub mod ScoreDomains
 pub mod Terms
 pub mod ExtremeScores
@@ -15,4 +15,3 @@ pub mod Cells
 pub mod Steps
 pub mod Refutes
 pub mod KeysOver
-pub mod MatchesOver

@@ -127,6 +127,13 @@ impl<'a> Cells<'a> {
         self.scopes[fixture as usize]
     }
 
+    /// What is left of each.
+    pub fn domains(&self) -> &[ScoreDomain]
+        ensures { result.now ≡ self.now.scopes }
+    {
+        self.scopes.as_slice()
+    }
+
     /// Puts another domain in the place of a fixture's.
     pub fn put(&mut self, fixture: u16, scope: ScoreDomain)
         requires { fixture < length self.old.scopes }

@@ -3,7 +3,7 @@
 //! What a reason says is league_core's `specs/search/Reasons.antt` and `SureOrder.antt`; read these
 //! first. Here each fixture has a domain of scores and its extremes (`cells.rt`,
 //! `extreme_scores.rt`), and sums over the extremes are those over all options. Nothing of the
-//! search is used. The near reason is tested by near_bound.
+//! search is used. The near reason is tested by check_near.
 #![tactic(auto)]
 
 mod cells;
@@ -11,7 +11,6 @@ mod compare;
 mod extreme_scores;
 mod int_range;
 mod key_ends;
-mod near;
 mod open_counts;
 mod outcomes;
 mod reasons;
@@ -28,4 +27,6 @@ mod trail;
 mod won;
 mod zone;
 
+pub use score_domain::{GoalRange, ScoreDomain};
+pub use step::Marks;
 pub use trail::{Trail, holds_in};

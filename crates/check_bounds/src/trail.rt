@@ -7,14 +7,15 @@ ghost use Rattle.league_core.specs.game.Seasons.{IsLeague};
 ghost use Rattle.league_core.specs.game.Questions.{IsQuestionOf};
 ghost use Rattle.league_core.specs.search.Reasons.{has_reason};
 ghost use Rattle.league_core.specs.search.Zones.{is_test_of, is_zone_of};
-ghost use Rattle.near_laws.specs.Near.{has_near_reason};
 ghost use Rattle.club_keys.specs.inside.KeyEnds.{AreKeyEnds};
-ghost use Rattle.check_bounds.specs.inside.Trails.{root_of, farther};
+ghost use Rattle.league_core.specs.search.Options.{options_in};
+ghost use Rattle.check_bounds.specs.inside.Zones.{AreScoreDomainsOf};
+ghost use Rattle.check_bounds.specs.inside.Trails.{root_of, farther, AreMarks};
 
 use crate::cells::Cells;
 use crate::key_ends::ends_over;
-use crate::near::has_near_over;
 use crate::reasons::holds_over;
+use crate::score_domain::ScoreDomain;
 use crate::step::{Marks, Step, cut_by, undo};
 use club_keys::KeyEnds;
 use league_core::{Literal, OutOfMemory, Question, Reason, Season, Sheet};
@@ -126,15 +127,34 @@ impl<'a> Trail<'a> {
         holds_over(self.season, question, &self.cells, self.marks, reason)
     }
 
-    /// Whether the near reason holds in the zone by the rival, by its number from 0: in a few walks
-    /// over the fixtures for each club concerned, and over at most 256 groups of rivals.
-    pub fn has_near(&self, question: &Question, rival: u8) -> bool
-        requires question { IsQuestionOf self.now.sheet question.now }
-        requires in_range { rival < length self.now.sheet.clubs }
-        ensures { result
-            ≡ has_near_reason self.now.sheet self.now.season question.now self.now.zone rival }
+    /// The sheet in which the way lies.
+    pub fn sheet(&self) -> &Sheet
+        ensures { result.now ≡ self.now.sheet }
     {
-        has_near_over(self.season, question, &self.cells, self.marks, rival)
+        self.cells.sheet()
+    }
+
+    /// The season in which it does.
+    pub fn season(&self) -> &Season
+        ensures value { result.now ≡ self.now.season }
+        ensures league { IsLeague self.now.sheet self.now.season }
+    {
+        self.season
+    }
+
+    /// What the zone leaves of each fixture, in the order of the sheet.
+    pub fn domains(&self) -> &[ScoreDomain]
+        ensures { AreScoreDomainsOf result.now
+            (options_in self.now.sheet self.now.season self.now.zone) }
+    {
+        self.cells.domains()
+    }
+
+    /// The rivals that the zone marks.
+    pub fn marks(&self) -> Marks
+        ensures { AreMarks result self.now.zone }
+    {
+        self.marks
     }
 }
 

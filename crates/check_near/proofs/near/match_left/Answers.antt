@@ -1,6 +1,6 @@
 use Rattle.std.proofs.Common.{◌&&◌}
-use Rattle.check_bounds.proofs.MatchesOverLemmas.{goals_same, outcomes_same}
-use Rattle.check_bounds.proofs.near.match_left.Goals as goal
+use Rattle.check_near.proofs.MatchesOverLemmas.{goals_same, outcomes_same}
+use Rattle.check_near.proofs.near.match_left.Goals as goal
 
 pub returns : goal.returns
 returns c = λ score.

@@ -13,7 +13,7 @@ use Rattle.check_bounds.specs.declared.score_domain.GoalRange.{GoalRange}
 use Rattle.check_bounds.specs.declared.score_domain.ScoreDomain.{ScoreDomain}
 use Rattle.check_bounds.specs.inside.ScoreDomains.{is_goals_of}
 use Rattle.check_bounds.specs.inside.Zones.{AreScoreDomainsOf}
-use Rattle.check_bounds.specs.inside.MatchesOver.{IsMatchOf, AreMatchesOf}
+use Rattle.check_near.specs.inside.MatchesOver.{IsMatchOf, AreMatchesOf}
 
 -- the same goals, in numbers below 256
 pub goals_same : (goals : GoalRange) (least most : ℕ)

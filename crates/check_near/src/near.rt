@@ -9,12 +9,10 @@ ghost use Rattle.league_core.specs.search.Options.{options_in};
 ghost use Rattle.near_laws.specs.Near.{has_near_reason};
 ghost use Rattle.check_bounds.specs.inside.Trails.{AreMarks};
 ghost use Rattle.check_bounds.specs.inside.Zones.{AreScoreDomainsOf};
-ghost use Rattle.check_bounds.specs.inside.MatchesOver.{IsMatchOf, AreMatchesOf};
+ghost use Rattle.check_near.specs.inside.MatchesOver.{IsMatchOf, AreMatchesOf};
 
-use crate::cells::Cells;
-use crate::score_domain::{GoalRange, ScoreDomain};
-use crate::step::Marks;
-use league_core::{Question, Season};
+use check_bounds::{GoalRange, Marks, ScoreDomain, Trail};
+use league_core::{Question, Season, Sheet};
 use near_bound::{MatchLeft, PlayedPart, ZoneLeft, has_near};
 
 // No score.
@@ -28,49 +26,64 @@ const NOTHING: MatchLeft = MatchLeft {
     away_most: 0,
 };
 
-/// Whether the near reason holds by the rival in a zone that leaves these cells and has these
-/// marks.
-pub fn has_near_over(
+/// Whether the near reason holds by the rival, by its number from 0, in the zone of the way: in a
+/// few walks over the fixtures for each club concerned, and over at most 256 groups of rivals.
+pub fn has_near_on(way: &Trail, question: &Question, rival: u8) -> bool
+    requires question { IsQuestionOf way.now.sheet question.now }
+    requires in_range { rival < length way.now.sheet.clubs }
+    ensures { result
+        ≡ has_near_reason way.now.sheet way.now.season question.now way.now.zone rival }
+{
+    has_near_over(
+        way.sheet(),
+        way.season(),
+        question,
+        way.domains(),
+        way.marks(),
+        rival,
+    )
+}
+
+// Whether it holds in a zone that leaves these domains and has these marks.
+fn has_near_over(
+    sheet: &Sheet,
     season: &Season,
     question: &Question,
-    cells: &Cells,
+    domains: &[ScoreDomain],
     marks: Marks,
     rival: u8,
 ) -> bool
-    requires league { IsLeague cells.now.sheet season.now }
-    requires many { length cells.now.scopes ≡ length cells.now.sheet.fixtures }
-    requires question { IsQuestionOf cells.now.sheet question.now }
-    requires in_range { rival < length cells.now.sheet.clubs }
+    requires league { IsLeague sheet.now season.now }
+    requires many { length domains.now ≡ length sheet.now.fixtures }
+    requires question { IsQuestionOf sheet.now question.now }
+    requires in_range { rival < length sheet.now.clubs }
     ensures { (zone : List Literal)
-        → AreScoreDomainsOf cells.now.scopes (options_in cells.now.sheet season.now zone)
+        → AreScoreDomainsOf domains.now (options_in sheet.now season.now zone)
         → AreMarks marks zone
-        → result ≡ has_near_reason cells.now.sheet season.now question.now zone rival }
+        → result ≡ has_near_reason sheet.now season.now question.now zone rival }
 {
-    let sheet = cells.sheet();
-    let fixtures = sheet.fixtures.len();
-    let matches = matches_left(cells, fixtures as u16);
+    let matches = matches_left(domains);
     let played = PlayedPart::of(sheet, season);
     let left = ZoneLeft {
         sheet,
         season,
         played: &played,
-        matches: &matches[..fixtures],
+        matches: &matches[..domains.len()],
         before: marks.before,
         after: marks.after,
     };
     has_near(&left, question, rival)
 }
 
-// What is left of each fixture; there are so many.
-fn matches_left(cells: &Cells, fixtures: u16) -> [MatchLeft; 600]
-    requires many { length cells.now.scopes ≡ fixtures }
-    requires few { fixtures ≤ 600 }
+// What is left of each fixture.
+fn matches_left(domains: &[ScoreDomain]) -> [MatchLeft; 600]
+    requires { length domains.now ≤ 600 }
     ensures long { length result ≡ 600 }
-    ensures each { AreMatchesOf result cells.now.scopes fixtures }
+    ensures each { AreMatchesOf result domains.now (length domains.now) }
 {
     let mut matches = [NOTHING; 600];
-    for fixture in 0..fixtures {
-        matches[fixture as usize] = match_left(&cells.scope(fixture));
+    for place in 0..domains.len() {
+        matches[place] = match_left(&domains[place]);
     }
     matches
 }

@@ -1,0 +1,2 @@
+-- Lemmas on domains for the near reason.
+pub mod MatchesOverLemmas
