@@ -36,18 +36,19 @@ use Rattle.wide_lines.specs.WideTrees.{is_wide_refuted, AreWideReasonsTrue}
 use Rattle.wide_lines.specs.WideTreeLines.{are_wide_tests_for, IsWideRefutation, IsWideSpentTree}
 use Rattle.wide_lines.proofs.RivalLemmas.{near_rival_fits, tests_with}
 use Rattle.line_tokens.specs.declared.tree_line.TreeKind.TheVariants.{Refutation, Spent}
-use Rattle.cert_check.specs.ExpectedItems.{Basis, is_path_for, may_have, may_refute}
+use Rattle.cert_check.specs.ExpectedItems.{Basis, may_have, may_refute}
+use Rattle.line_tokens.specs.LineRanges.{is_path_for}
 use Rattle.line_tokens.specs.LineRanges.{is_reason_for}
 use Rattle.league_core.specs.game.Questions.{full_question, holds_at}
 use Rattle.cert_text.specs.declared.proof_line.ProofLine.{ProofLine}
 use Rattle.cert_text.specs.ExampleLines.{score_lines, lots_line}
 use Rattle.line_tokens.specs.declared.token.Token.{Token}
 use Rattle.line_tokens.specs.declared.token.Token.TheVariants.{Row, Proof}
-use Rattle.cert_check.specs.declared.expected.RowWord.{RowWord}
-use Rattle.cert_check.specs.declared.expected.RowWord.TheVariants.{Clinched, Lost, Possible}
-use Rattle.cert_check.specs.declared.expected.RowWord.TheVariants.{Unsettled}
+use Rattle.line_tokens.specs.declared.row_word.RowWord.{RowWord}
+use Rattle.line_tokens.specs.declared.row_word.RowWord.TheVariants.{Clinched, Lost, Possible}
+use Rattle.line_tokens.specs.declared.row_word.RowWord.TheVariants.{Unsettled}
 use Rattle.line_tokens.specs.Tokens.{counts, counted_lines, token_of_wide}
-use Rattle.cert_check.specs.ExpectedItems.{verdict_fields, ask_fields}
+use Rattle.line_tokens.specs.RowFields.{verdict_fields, ask_fields}
 use Rattle.line_tokens.specs.LineRanges.{name_of_club}
 use Rattle.cert_check.specs.ExpectedItems.{Expected}
 use Rattle.cert_check.specs.LineGrammars.{whole_at}
@@ -62,7 +63,7 @@ use Rattle.cert_check.specs.inside.Answers.{ShowsWord, ShownItem, item_tokens, a
 use Rattle.cert_check.specs.inside.Answers.{AreShown, unsettled_items, row_due, may_have_leaves}
 use Rattle.cert_check.proofs.ExampleLemmas.{same_finish}
 use Rattle.cert_check.proofs.NodeLemmas.{node_counts}
-use Rattle.cert_check.proofs.FitLemmas.{reason_fits}
+use Rattle.line_tokens.proofs.FitLemmas.{reason_fits}
 use Rattle.cert_check.specs.inside.LineParts.{unsettled_with}
 use Rattle.cert_check.proofs.ReportLemmas.{proved_is_accepted}
 

@@ -20,7 +20,8 @@ use Rattle.cert_check.specs.declared.expected.Tally.{Tally}
 use Rattle.cert_check.specs.ExpectedItems.{Basis, Expected, ask_row, verdict_row}
 use Rattle.cert_check.specs.LineGrammars.{go, by_next}
 use Rattle.cert_check.specs.ExpectedItems.{nodes}
-use Rattle.cert_check.specs.ExpectedItems.{after, is_ask_row, is_path_for}
+use Rattle.cert_check.specs.ExpectedItems.{after, is_ask_row}
+use Rattle.line_tokens.specs.LineRanges.{is_path_for}
 use Rattle.cert_check.specs.ExpectedItems.{after_leaf, may_refute}
 use Rattle.cert_check.specs.ExpectedItems.{after_node, with_fresh}
 use Rattle.cert_check.specs.Machine.{with_unsettled}

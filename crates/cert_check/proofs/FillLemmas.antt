@@ -20,13 +20,14 @@ use Rattle.wide_lines.specs.WideReasons.{has_wide_reason}
 use Rattle.wide_lines.specs.WideTrees.{WideTree, refuted_leaf}
 use Rattle.line_tokens.specs.declared.token.Token.{Token}
 use Rattle.line_tokens.specs.declared.token.Token.TheVariants.{Row, Proof}
-use Rattle.cert_check.specs.declared.expected.RowWord.TheVariants.{Clinched}
+use Rattle.line_tokens.specs.declared.row_word.RowWord.TheVariants.{Clinched}
 use Rattle.line_tokens.specs.declared.tree_line.TreeKind.{TreeKind}
 use Rattle.line_tokens.specs.declared.tree_line.TreeKind.TheVariants.{Refutation, Spent}
 use Rattle.cert_check.specs.declared.expected.Tally.{Tally}
 use Rattle.cert_check.specs.ExpectedItems.{Basis, Expected, ask_row, verdict_row, tree_head}
 use Rattle.cert_check.specs.ExpectedItems.{spent_head, finish_head, both_parts, one_part, nodes}
-use Rattle.cert_check.specs.ExpectedItems.{score, lots, ask_fields, verdict_fields}
+use Rattle.cert_check.specs.ExpectedItems.{score, lots}
+use Rattle.line_tokens.specs.RowFields.{ask_fields, verdict_fields}
 use Rattle.line_tokens.specs.LineRanges.{name_of_club}
 use Rattle.cert_check.specs.ExpectedItems.{finish_with, is_tally_whole}
 use Rattle.cert_check.specs.inside.Grammar.{IsPartFor, TreesFit, AreTrees, lines_of_trees}

@@ -16,7 +16,7 @@ use Rattle.result_log.specs.declared.entry.Entry.{Entry}
 use Rattle.result_log.specs.declared.entry.Entry.TheVariants.{Change, Ask, Proofs, End}
 use Rattle.result_log.specs.declared.fault.FeedFault.{FeedFault}
 use Rattle.result_log.specs.declared.fault.FeedStop.TheVariants as feed_stop
-use Rattle.cert_check.specs.LineLists.{NumberedLine}
+use Rattle.kept_lines.specs.LineLists.{NumberedLine}
 use Rattle.line_tokens.specs.Tokens.{counts, token_of}
 use Rattle.cert_check.specs.LineGrammars.{Ending, whole_at, bad_line, no_proof, short}
 use Rattle.cert_check.specs.declared.feed.FeedRead.{FeedRead}
@@ -29,7 +29,8 @@ use Rattle.cert_check.specs.declared.outcome.CheckFailure.{CheckFailure}
 use Rattle.cert_check.specs.declared.outcome.CheckFailure.TheVariants as failure
 use Rattle.cert_check.specs.declared.expected.ReportKind.{ReportKind}
 use Rattle.cert_check.specs.Outcomes.{outcome_of, outcome_of_sheet, outcome_of_feed, outcome_from}
-use Rattle.cert_check.specs.Outcomes.{outcome_of_report, first_progress, numbered}
+use Rattle.cert_check.specs.Outcomes.{outcome_of_report, first_progress}
+use Rattle.kept_lines.specs.LineLists.{numbered}
 use Rattle.cert_check.specs.inside.InputCalls.{IfRead, ChecksBy, IsStoppedBy, EndsFeed, StopsFeed}
 use Rattle.cert_check.specs.inside.InputCalls.{ReadsLines, outcome_after_sheet, outcome_after_feed}
 use Rattle.cert_check.specs.Outcomes.{ReportInput, ReportProgressView, outcome_at_end, outcome_by}

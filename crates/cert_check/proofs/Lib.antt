@@ -1,13 +1,7 @@
--- Small facts on lists and rows, and lines kept in blocks; then what each line that may come makes
--- of what is due and back, then whole reports. After these inputs: how a reading of a sheet and of
--- an entry goes on whatever follows it, feeds entry by entry, what comes after them, and reports
--- part by part; then the text of a proof line, of a row, and of an answer; and lines as types hold
--- them.
+-- Small facts on ways and rows; then what each line that may come makes of what is due and back,
+-- then whole reports. After these inputs: how a reading of a sheet and of an entry goes on whatever
+-- follows it, feeds entry by entry, what comes after them, and reports part by part.
 pub mod ListLemmas
-pub mod LineHeadLemmas
-pub mod LinePlaceLemmas
-pub mod LineBlockLemmas
-pub mod LineListLemmas
 pub mod MachineLemmas
 pub mod CountLemmas
 pub mod AlikeLemmas
@@ -24,17 +18,8 @@ pub mod ExampleLemmas
 pub mod FillLemmas
 pub mod ReportLemmas
 pub mod TruthLemmas
-pub mod FitLemmas
 pub mod AnswerLemmas
 pub mod ReadingLemmas
 pub mod FeedLemmas
 pub mod InputLemmas
 pub mod OutcomeLemmas
-pub mod ReadBackLemmas
-pub mod RowBackLemmas
-pub mod WithinLemmas
-pub mod BodyLemmas
-pub mod WrittenLemmas
-pub mod KeptLemmas
-pub mod KeptTreeLemmas
-pub mod KeptWideLemmas

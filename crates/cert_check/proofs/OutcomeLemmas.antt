@@ -24,7 +24,8 @@ use Rattle.cert_check.specs.declared.stop.Accepted.{Accepted as PartAccepted}
 use Rattle.cert_check.specs.declared.stop.CheckStop.{CheckStop}
 use Rattle.cert_check.specs.declared.stop.CheckStop.TheVariants as check_stop
 use Rattle.line_tokens.specs.Tokens.{token_of, counts, counted_lines}
-use Rattle.cert_check.specs.LineLists.{NumberedLine, tokens_of, line_number_at}
+use Rattle.kept_lines.specs.LineLists.{NumberedLine, line_number_at}
+use Rattle.line_tokens.specs.Tokens.{tokens_of}
 use Rattle.cert_check.specs.LineGrammars.{Ending, whole_at, bad_line, no_proof, short}
 use Rattle.cert_check.specs.declared.expected.ReportKind.{ReportKind}
 use Rattle.cert_check.specs.Machine.{basis_of}
@@ -289,7 +290,7 @@ module _ (kind : ReportKind) (contents : Contents) (rows unsettled : ℕ) (sheet
         (record {
           kind = kind;
           sheet = sheet;
-          lines = map Rattle.cert_check.specs.Outcomes.numbered rest.lines;
+          lines = map Rattle.kept_lines.specs.LineLists.numbered rest.lines;
           end = number;
         }) entries (first_progress sheet) rows unsettled cc;
   }

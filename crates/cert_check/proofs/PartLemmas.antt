@@ -12,9 +12,9 @@ use Rattle.cert_text.specs.declared.proof_line.ProofLine.{ProofLine}
 use Rattle.cert_text.specs.declared.proof_line.ProofLine.TheVariants as line
 use Rattle.line_tokens.specs.declared.token.Token.{Token}
 use Rattle.line_tokens.specs.declared.token.Token.TheVariants.{Blank, Row, Proof, Near, Unknown}
-use Rattle.cert_check.specs.declared.expected.RowWord.{RowWord}
-use Rattle.cert_check.specs.declared.expected.RowWord.TheVariants.{Clinched, Lost, Possible}
-use Rattle.cert_check.specs.declared.expected.RowWord.TheVariants.{Unsettled}
+use Rattle.line_tokens.specs.declared.row_word.RowWord.{RowWord}
+use Rattle.line_tokens.specs.declared.row_word.RowWord.TheVariants.{Clinched, Lost, Possible}
+use Rattle.line_tokens.specs.declared.row_word.RowWord.TheVariants.{Unsettled}
 use Rattle.cert_check.specs.declared.expected.Head.{Head}
 use Rattle.cert_check.specs.declared.expected.Head.TheVariants.{RefutedTree, SpentTree, Example}
 use Rattle.line_tokens.specs.declared.tree_line.TreeKind.TheVariants.{Refutation, Spent}
@@ -23,7 +23,8 @@ use Rattle.cert_check.specs.ExpectedItems.{Basis, Expected, ask_row, verdict_row
 use Rattle.cert_check.specs.ExpectedItems.{spent_head}
 use Rattle.cert_check.specs.ExpectedItems.{finish_head, both_parts, one_part, nodes, score, lots}
 use Rattle.cert_check.specs.LineGrammars.{bad, go}
-use Rattle.cert_check.specs.ExpectedItems.{is_ask_row, ask_fields, verdict_fields}
+use Rattle.cert_check.specs.ExpectedItems.{is_ask_row}
+use Rattle.line_tokens.specs.RowFields.{ask_fields, verdict_fields}
 use Rattle.line_tokens.specs.LineRanges.{name_of_club}
 use Rattle.cert_check.specs.ExpectedItems.{word_in_row, promised, whole_tree}
 use Rattle.line_tokens.specs.LineRanges.{same_claim}

@@ -4,11 +4,13 @@ use Rattle.std.proofs.Common.{refl, ap, ◌∙◌, length, codes, decimal, arith
 use Rattle.std.specs.Prelude.{bytes_eq, if◌then◌else◌}
 use Rattle.std.proofs.lemmas.Bool.{and_parts, and_from, eqb-true}
 use Rattle.fixture_sheet.specs.Fields.{field}
-use Rattle.cert_check.specs.declared.expected.RowWord.{RowWord}
-use Rattle.cert_check.specs.declared.expected.RowWord.TheVariants.{Clinched, Lost, Possible}
-use Rattle.cert_check.specs.declared.expected.RowWord.TheVariants.{Unsettled}
-use Rattle.cert_check.specs.ExpectedItems.{ask_fields, verdict_fields, is_ask_row, is_row_about}
-use Rattle.cert_check.specs.ExpectedItems.{word_named, word_in_row, text_of_word}
+use Rattle.line_tokens.specs.declared.row_word.RowWord.{RowWord}
+use Rattle.line_tokens.specs.declared.row_word.RowWord.TheVariants.{Clinched, Lost, Possible}
+use Rattle.line_tokens.specs.declared.row_word.RowWord.TheVariants.{Unsettled}
+use Rattle.line_tokens.specs.RowFields.{ask_fields, verdict_fields}
+use Rattle.cert_check.specs.ExpectedItems.{is_ask_row, is_row_about}
+use Rattle.cert_check.specs.ExpectedItems.{word_named, word_in_row}
+use Rattle.line_tokens.specs.RowFields.{text_of_word}
 use Rattle.league_core.proofs.plain.Texts.{bytes_eq-itself, bytes_eq-true}
 
 -- two fields

@@ -17,9 +17,9 @@ use Rattle.wide_lines.specs.WideTrees.{WideTree, open_leaf, refuted_leaf, branch
 use Rattle.wide_lines.specs.WideTrees.{is_wide_refuted, AreWideReasonsTrue}
 use Rattle.wide_lines.proofs.WideTreeLemmas.{refuted_below}
 use Rattle.line_tokens.specs.declared.token.Token.{Token}
-use Rattle.cert_check.specs.declared.expected.RowWord.{RowWord}
-use Rattle.cert_check.specs.declared.expected.RowWord.TheVariants.{Clinched, Lost, Possible}
-use Rattle.cert_check.specs.declared.expected.RowWord.TheVariants.{Unsettled}
+use Rattle.line_tokens.specs.declared.row_word.RowWord.{RowWord}
+use Rattle.line_tokens.specs.declared.row_word.RowWord.TheVariants.{Clinched, Lost, Possible}
+use Rattle.line_tokens.specs.declared.row_word.RowWord.TheVariants.{Unsettled}
 use Rattle.line_tokens.specs.declared.tree_line.TreeKind.TheVariants.{Refutation}
 use Rattle.cert_check.specs.ExpectedItems.{Basis, Expected, ask_row, verdict_row, finish_with}
 use Rattle.cert_check.specs.Machine.{rows_on_line, part_of_ask}
@@ -27,7 +27,8 @@ use Rattle.cert_check.specs.inside.Grammar.{NodeFits, TreesFit, IsRefutationPart
 use Rattle.cert_check.specs.inside.Grammar.{IsAfterReport, AreParts}
 use Rattle.std.proofs.Common.{drop}
 use Rattle.line_tokens.specs.Tokens.{counted_lines}
-use Rattle.cert_check.specs.LineLists.{NumberedLine, tokens_of}
+use Rattle.kept_lines.specs.LineLists.{NumberedLine}
+use Rattle.line_tokens.specs.Tokens.{tokens_of}
 use Rattle.cert_check.specs.LineGrammars.{whole_at}
 use Rattle.cert_check.specs.inside.Truths.{IsSaidTruly, AreTrueRows}
 use Rattle.cert_check.specs.Machine.{part_ending}

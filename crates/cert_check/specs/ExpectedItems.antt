@@ -3,7 +3,6 @@
 use Rattle.std.specs.Prelude.{ℕ, ◌+◌, Bool, true, false, ◌&&◌, ◌==◌, nat_le}
 use Rattle.std.specs.Prelude.{List, [], ◌∷◌, ◌++◌, length, Option, Some, None, codes, decimal}
 use Rattle.std.specs.Prelude.{bytes_eq, if◌then◌else◌}
-use Rattle.std.specs.List.{list_all}
 use Rattle.league_core.specs.declared.sheet.Sheet.{Sheet}
 use Rattle.league_core.specs.declared.season.Score.{Score}
 use Rattle.league_core.specs.declared.question.Claim.{Claim}
@@ -26,9 +25,9 @@ use Rattle.wide_lines.specs.declared.wide_node.WideNode.TheVariants as node
 use Rattle.wide_lines.specs.WideReasons.{has_wide_reason}
 use Rattle.line_tokens.specs.declared.token.Token.{Token}
 use Rattle.line_tokens.specs.declared.token.Token.TheVariants.{Blank, Row, Proof, Near, Unknown}
-use Rattle.cert_check.specs.declared.expected.RowWord.{RowWord}
-use Rattle.cert_check.specs.declared.expected.RowWord.TheVariants.{Clinched, Lost, Possible}
-use Rattle.cert_check.specs.declared.expected.RowWord.TheVariants.{Unsettled}
+use Rattle.line_tokens.specs.declared.row_word.RowWord.{RowWord}
+use Rattle.line_tokens.specs.declared.row_word.RowWord.TheVariants.{Clinched, Lost, Possible}
+use Rattle.line_tokens.specs.declared.row_word.RowWord.TheVariants.{Unsettled}
 use Rattle.cert_check.specs.declared.expected.Head.{Head}
 use Rattle.cert_check.specs.declared.expected.Head.TheVariants.{RefutedTree, SpentTree, Example}
 use Rattle.line_tokens.specs.declared.tree_line.TreeKind.{TreeKind}
@@ -66,22 +65,6 @@ pub data Expected : Type 0 where
 
 -- ---- rows
 
--- `ask,E`
-abbrev pub ask_fields : ℕ → List (List ℕ)
-ask_fields epoch = codes "ask" ∷ decimal epoch ∷ []
-
--- the word in a row
-abbrev pub text_of_word : RowWord → List ℕ
-text_of_word Clinched = codes "clinched"
-text_of_word Lost = codes "lost"
-text_of_word Possible = codes "possible"
-text_of_word Unsettled = codes "unsettled"
-
--- `verdict,K,CLUB,WORD`
-abbrev pub verdict_fields : ℕ → List ℕ → RowWord → List (List ℕ)
-verdict_fields line name word =
-    codes "verdict" ∷ decimal line ∷ name ∷ text_of_word word ∷ []
-
 -- the fields are the row of the ask, byte for byte
 abbrev pub is_ask_row : ℕ → List (List ℕ) → Bool
 is_ask_row epoch fields =
@@ -112,10 +95,6 @@ abbrev pub word_in_row : ℕ → List ℕ → List (List ℕ) → Option RowWord
 word_in_row line name fields = word_if_about (is_row_about line name fields) (field 3 fields)
 
 -- ---- what a report's lines may name
-
--- a zone with such tests alone
-abbrev pub is_path_for : Sheet → Question → List Literal → Bool
-is_path_for sheet question zone = list_all (λ it. is_test_for sheet question it.test) zone
 
 -- a report of this kind may have such leaves: near ones stand in wide reports alone
 abbrev pub may_have : ReportKind → WideReason → Bool

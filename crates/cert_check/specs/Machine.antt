@@ -11,7 +11,8 @@ use Rattle.cert_check.specs.declared.expected.ReportKind.{ReportKind}
 use Rattle.cert_check.specs.LineGrammars.{LineGrammar, Ending, ending_by}
 use Rattle.cert_check.specs.ExpectedItems.{Basis, Expected, ask_row, verdict_row}
 use Rattle.cert_check.specs.ExpectedItems.{after}
-use Rattle.cert_check.specs.LineLists.{NumberedLine, tokens_of}
+use Rattle.kept_lines.specs.LineLists.{NumberedLine}
+use Rattle.line_tokens.specs.Tokens.{tokens_of}
 
 -- the line is the row of an unsettled club
 abbrev pub is_unsettled_row : Token → Bool

@@ -21,7 +21,7 @@ use Rattle.result_log.specs.declared.fault.FeedStop.{FeedStop}
 use Rattle.result_log.specs.declared.fault.FeedStop.TheVariants as feed_stop
 use Rattle.result_log.specs.Feeds.{Feed, feed_of, season_with, count_with}
 use Rattle.line_tokens.specs.Tokens.{token_of, counts}
-use Rattle.cert_check.specs.LineLists.{NumberedLine, line_number_at}
+use Rattle.kept_lines.specs.LineLists.{NumberedLine, line_number_at, numbered}
 use Rattle.cert_check.specs.declared.expected.ReportKind.{ReportKind}
 use Rattle.cert_check.specs.LineGrammars.{Ending, whole_at, bad_line, no_proof, short}
 use Rattle.cert_check.specs.Machine.{basis_of, part_ending}
@@ -124,10 +124,6 @@ abbrev pub outcome_from : ReportInput → List Entry → ReportProgressView → 
 outcome_from report [] standing = outcome_at_end standing (drop standing.at report.lines)
 outcome_from report (entry ∷ entries) standing =
     outcome_after report standing entry (outcome_from report entries)
-
--- a line as the report has it
-abbrev pub numbered : ℕ × List ℕ → NumberedLine
-numbered line = record { number = line.0; text = line.1 }
 
 -- ---- the whole input
 

@@ -1,7 +1,5 @@
 -- What the functions promise each other and the crates above: no promise of the program rests on
 -- these words. Read in this order.
-pub mod LineHeads
-pub mod LineBlocks
 pub mod Pieces
 pub mod LineParts
 pub mod Grammar
@@ -11,5 +9,3 @@ pub mod Calls
 pub mod Answers
 pub mod ReportTruths
 pub mod InputCalls
-pub mod WrittenLines
-pub mod WrittenReports

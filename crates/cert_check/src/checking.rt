@@ -6,16 +6,16 @@ ghost use Rattle.league_core.specs.game.Sheets.{clubs_of, is_line, IsWithinLimit
 ghost use Rattle.cert_check.specs.Machine.{rows_on_line, rows_of, part_of_ask};
 ghost use Rattle.cert_check.specs.inside.Calls.{GoesOverAll, ChecksPart, ChecksEnd};
 ghost use Rattle.cert_check.specs.Machine.{basis_of};
-ghost use Rattle.cert_check.specs.LineLists.{tokens_of};
+ghost use Rattle.line_tokens.specs.Tokens.{tokens_of};
 
 use crate::expected::AskedPart;
 use crate::item::PartRead;
-use crate::line_list::LineList;
 use crate::report::Report;
 use crate::stop::{Accepted, CheckStop, CheckStopAt};
 use check_bounds::Trail;
+use kept_lines::LineList;
 use league_core::{Season, Sheet};
-use line_tokens::counts;
+use line_tokens::{counts, token_at};
 use std::alloc::Global;
 
 /// Checks the lines from a position on, from 0, as the part of a report that answers one ask of a
@@ -86,7 +86,7 @@ pub fn check_end(alloc: Global, lines: &LineList, from: usize) -> Result<(), Che
     ensures { ChecksEnd lines.now from result }
 {
     for at in from..lines.len() {
-        if counts(&lines.token(alloc, at)?) {
+        if counts(&token_at(alloc, lines, at)?) {
             return Err(CheckStop::BadLine {
                 number: lines.number(at),
             });

@@ -16,15 +16,6 @@ pub struct AskedPart {
     pub epoch: u64,
 }
 
-/// The word of a verdict row.
-#[derive(Clone, Copy)]
-pub enum RowWord {
-    Clinched,
-    Lost,
-    Possible,
-    Unsettled,
-}
-
 /// What was counted in a tree so far.
 #[derive(Clone, Copy)]
 pub struct Tally {

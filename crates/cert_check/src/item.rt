@@ -10,7 +10,7 @@ ghost use Rattle.cert_check.specs.ExpectedItems as dues;
 ghost use Rattle.cert_check.specs.inside.Calls.{Goes, head_of_token, GoesOverItem, GoesAfter};
 ghost use Rattle.cert_check.specs.inside.Calls as calls;
 
-use crate::expected::{Head, RowWord};
+use crate::expected::Head;
 use crate::ranges::same_claim;
 use crate::report::Report;
 use crate::stop::CheckStopAt;
@@ -18,7 +18,7 @@ use crate::tree::TreeSpec;
 use cert_text::ProofLine;
 use league_core::limits::{MOST_DEDUCTION, MOST_POINTS};
 use league_core::{Claim, Question};
-use line_tokens::{Token, TreeKind};
+use line_tokens::{RowWord, Token, TreeKind};
 
 /// A part of a report that was read: an item, or several.
 #[derive(Clone, Copy)]

@@ -17,9 +17,6 @@ mod feed;
 mod input_laws;
 mod item;
 mod laws;
-mod line_block;
-mod line_head;
-mod line_list;
 mod lines;
 mod outcome;
 mod path;
@@ -30,17 +27,14 @@ mod stop;
 mod tree;
 
 pub use checking::{check, check_end};
-pub use expected::{AskedPart, Head, ReportKind, RowWord, Tally};
+pub use expected::{AskedPart, Head, ReportKind, Tally};
 pub use feed::{FeedRead, FeedSoFar, read_feed};
-pub use input_laws::{
-    accepted_inputs_tell_truly, written_lines_read_back, written_reports_read_back,
-};
+pub use input_laws::accepted_inputs_tell_truly;
 pub use item::{PartRead, full_question, head_of};
 pub use laws::{
     accepted_parts_are_proved, proved_parts_are_accepted, proved_rows_are_true,
     shown_answers_are_accepted, stops_are_exact,
 };
-pub use line_list::LineList;
 pub use lines::{LinesStop, ReportLines, read_lines};
 pub use outcome::{CheckFailure, CheckOutcome, ReportFault};
 pub use ranges::may_refute;

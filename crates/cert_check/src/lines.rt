@@ -4,7 +4,7 @@ ghost use Rattle.std.specs.Prelude.{◌≡◌, []};
 ghost use Rattle.port_core.specs.Readers.{TakesInput, contents_to_come};
 ghost use Rattle.cert_check.specs.inside.InputCalls.{CountsLines, LeavesLines, ReadsLines, IfRead};
 
-use crate::line_list::LineList;
+use kept_lines::LineList;
 use league_core::OutOfMemory;
 use port_core::{Line, LineReader, ReadStop, Source};
 

@@ -3,16 +3,16 @@
 ghost use Rattle.std.specs.Prelude.{◌≡◌, ◌<◌, ◌≤◌, ◌+◌, ◌∷◌, length, drop, IfOk};
 ghost use Rattle.league_core.specs.game.Seasons.{IsLeague};
 ghost use Rattle.check_bounds.specs.inside.Trails.{root_of};
-ghost use Rattle.cert_check.specs.LineLists.{tokens_of};
+ghost use Rattle.line_tokens.specs.Tokens.{tokens_of};
 ghost use Rattle.cert_check.specs.Machine.{basis_of};
 ghost use Rattle.cert_check.specs.inside.Calls.{IsNextAt, FindsNext};
 
 use crate::expected::{AskedPart, ReportKind};
-use crate::line_list::LineList;
 use crate::stop::CheckStopAt;
 use check_bounds::Trail;
+use kept_lines::LineList;
 use league_core::{OutOfMemory, Season, Sheet};
-use line_tokens::{Token, counts};
+use line_tokens::{Token, counts, token_at};
 use std::alloc::Global;
 use std::marker::Model;
 
@@ -32,7 +32,7 @@ pub struct Report<'a> {
 impl<'a> Model for Report<'a> {
     ghost use Rattle.cert_check.specs.inside.Calls.{ReportView};
     ghost use Rattle.cert_check.specs.Machine.{basis_of};
-    ghost use Rattle.cert_check.specs.LineLists.{tokens_of};
+    ghost use Rattle.line_tokens.specs.Tokens.{tokens_of};
 
     ghost Value = { ReportView };
 
@@ -135,7 +135,7 @@ impl<'a> Report<'a> {
         ensures { IfOk result
             (λ token. drop at self.now.tokens ≡ token ∷ drop (at + 1) self.now.tokens) }
     {
-        self.lines.token(self.alloc, at)
+        token_at(self.alloc, self.lines, at)
     }
 
     /// The next line that counts, from a position on, with its position.

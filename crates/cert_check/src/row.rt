@@ -11,12 +11,11 @@ ghost use Rattle.cert_check.specs.ExpectedItems as dues;
 ghost use Rattle.cert_check.specs.Machine.{with_unsettled};
 ghost use Rattle.cert_check.specs.inside.Calls.{Goes, GoesByWord, after_ask_row_if, unsettled_in};
 
-use crate::expected::RowWord;
 use crate::report::Report;
 use crate::stop::CheckStopAt;
 use fixture_sheet::Fields;
 use league_core::OutOfMemory;
-use line_tokens::Token;
+use line_tokens::{RowWord, Token};
 use std::alloc::{AllocError, Global};
 
 impl<'a> Report<'a> {

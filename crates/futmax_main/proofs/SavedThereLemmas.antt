@@ -22,7 +22,7 @@ use Rattle.cert_text.specs.Ranges.{is_test_in_range}
 use Rattle.cert_text.specs.Rows.{text_of_row}
 use Rattle.cert_text.specs.TreeLines.{is_test_for}
 use Rattle.cert_text.proofs.ProperLemmas.{proper_tests}
-use Rattle.cert_check.proofs.FitLemmas.{FitsAsLine, lines_fit}
+use Rattle.line_tokens.proofs.FitLemmas.{FitsAsLine, lines_fit}
 use Rattle.answer_rows.specs.Parts.{IsMadeOf}
 use Rattle.answer_rows.specs.AskedQuestions.{questions_of}
 use Rattle.answer_rows.proofs.AskedLemmas.{all_are_asked}

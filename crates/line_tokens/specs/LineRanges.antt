@@ -7,6 +7,7 @@ use Rattle.league_core.specs.declared.sheet.Sheet.{Sheet}
 use Rattle.league_core.specs.declared.question.Claim.{Claim}
 use Rattle.league_core.specs.declared.question.Claim.TheVariants.{Inside, Outside}
 use Rattle.league_core.specs.declared.question.Question.{Question}
+use Rattle.league_core.specs.declared.zone.Literal.{Literal}
 use Rattle.league_core.specs.declared.zone.Reason.{Reason}
 use Rattle.league_core.specs.declared.zone.Reason.TheVariants.{Count, Window, Low, High, Tie}
 use Rattle.league_core.specs.declared.zone.Test.TheVariants.{Rival}
@@ -45,3 +46,7 @@ is_reason_for sheet question Tie = true
 abbrev pub is_wide_reason_for : Sheet → Question → WideReason → Bool
 is_wide_reason_for sheet question (wide.Plain reason) = is_reason_for sheet question reason
 is_wide_reason_for sheet question (wide.Near rival) = is_test_for sheet question (Rival rival)
+
+-- a zone with tests alone that a tree for the question may have
+abbrev pub is_path_for : Sheet → Question → List Literal → Bool
+is_path_for sheet question zone = list_all (λ it. is_test_for sheet question it.test) zone

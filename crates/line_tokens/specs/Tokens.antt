@@ -2,11 +2,12 @@
 -- or nothing, any other is a record, a line with a CR inside is nothing, and one without a field is
 -- passed over.
 use Rattle.std.specs.Prelude.{ℕ, Bool, true, false, ◌==◌, List, [], ◌∷◌, Option, Some, None}
-use Rattle.std.specs.Prelude.{filter, if◌then◌else◌}
+use Rattle.std.specs.Prelude.{filter, map, if◌then◌else◌}
 use Rattle.fixture_sheet.specs.Fields.{has_return, record_of}
 use Rattle.wide_lines.specs.declared.wide_line.WideLine.{WideLine}
 use Rattle.wide_lines.specs.declared.wide_line.WideLine.TheVariants as wide
 use Rattle.wide_lines.specs.WideTexts.{wide_line_in}
+use Rattle.kept_lines.specs.LineLists.{NumberedLine}
 use Rattle.line_tokens.specs.declared.token.Token.{Token}
 use Rattle.line_tokens.specs.declared.token.Token.TheVariants.{Blank, Row, Proof, Near, Unknown}
 
@@ -50,3 +51,7 @@ token_of_row text = if has_return text then Unknown else token_of_record (record
 -- what the content of a line is
 abbrev pub token_of : List ℕ → Token
 token_of text = if begins_proof text then token_of_line (wide_line_in text) else token_of_row text
+
+-- what each line is
+abbrev pub tokens_of : List NumberedLine → List Token
+tokens_of lines = map (λ line. token_of line.text) lines

@@ -1,13 +1,14 @@
 //! What one line of a report is, before it is known whether it may come there.
 
-ghost use Rattle.std.specs.Prelude.{◌≡◌, IfOk};
+ghost use Rattle.std.specs.Prelude.{◌≡◌, ◌<◌, ◌+◌, ◌∷◌, IfOk, drop, length};
 ghost use Rattle.line_tokens.specs.Tokens.{token_of, token_of_row, begins_proof, token_of_line};
-ghost use Rattle.line_tokens.specs.Tokens.{token_of_wide};
+ghost use Rattle.line_tokens.specs.Tokens.{token_of_wide, tokens_of};
 ghost use Rattle.line_tokens.specs.Tokens as tokens;
 ghost use Rattle.wide_lines.specs.WideTexts.{wide_line_in};
 
 use cert_text::{LineStop, ProofLine};
 use fixture_sheet::{Fields, FieldsStop, fields_of};
+use kept_lines::LineList;
 use league_core::OutOfMemory;
 use std::alloc::Global;
 use wide_lines::{WideLine, read_wide_line};
@@ -79,6 +80,15 @@ fn row_token(alloc: Global, text: &[u8]) -> Result<Token, OutOfMemory>
         Err(FieldsStop::InnerReturn) => Ok(Token::Unknown),
         Err(FieldsStop::OutOfMemory) => Err(OutOfMemory),
     }
+}
+
+/// What the line at a position, from 0, is.
+pub fn token_at(alloc: Global, lines: &LineList, at: usize) -> Result<Token, OutOfMemory>
+    requires { at < length lines.now }
+    ensures { IfOk result (λ token.
+        drop at (tokens_of lines.now) ≡ token ∷ drop (at + 1) (tokens_of lines.now)) }
+{
+    read_token(alloc, lines.text(at))
 }
 
 /// The line counts: it is not passed over.

@@ -20,7 +20,8 @@ use Rattle.par_check.specs.Checked.{AnswersSo, ending_in, rows_in}
 use Rattle.par_check.proofs.RowAtLemmas.{rows_count}
 use Rattle.result_log.specs.declared.entry.Entry.{Entry}
 use Rattle.result_log.specs.declared.entry.Entry.TheVariants.{Change, Ask, Proofs, End}
-use Rattle.cert_check.specs.LineLists.{NumberedLine, tokens_of}
+use Rattle.kept_lines.specs.LineLists.{NumberedLine}
+use Rattle.line_tokens.specs.Tokens.{tokens_of}
 use Rattle.line_tokens.specs.Tokens.{token_of, counts}
 use Rattle.cert_check.specs.LineGrammars.{Ending, whole_at, bad_line, no_proof}
 use Rattle.cert_check.specs.LineGrammars.{short}

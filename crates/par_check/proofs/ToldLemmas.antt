@@ -4,7 +4,8 @@ use Rattle.std.proofs.Common.{true, refl, sym, ap, ◌∙◌, arith}
 use Rattle.std.specs.Prelude.{All}
 use Rattle.league_core.specs.declared.sheet.Sheet.{Sheet}
 use Rattle.league_core.specs.game.Sheets.{IsWithinLimits}
-use Rattle.cert_check.specs.LineLists.{NumberedLine, tokens_of}
+use Rattle.kept_lines.specs.LineLists.{NumberedLine}
+use Rattle.line_tokens.specs.Tokens.{tokens_of}
 use Rattle.cert_check.specs.ExpectedItems.{ask_row, Expected}
 use Rattle.cert_check.specs.Machine.{rows_of}
 use Rattle.par_check.specs.declared.asks.Asks.{Asks}

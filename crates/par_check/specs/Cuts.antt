@@ -15,7 +15,8 @@ use Rattle.cert_check.specs.declared.stop.CheckStop.{CheckStop}
 use Rattle.cert_check.specs.declared.stop.CheckStop.TheVariants as stop
 use Rattle.cert_check.specs.declared.stop.CheckStopAt.{CheckStopAt}
 use Rattle.cert_check.specs.declared.stop.CheckStopAt.TheVariants as halt
-use Rattle.cert_check.specs.LineLists.{NumberedLine, tokens_of, line_number_at}
+use Rattle.kept_lines.specs.LineLists.{NumberedLine, line_number_at}
+use Rattle.line_tokens.specs.Tokens.{tokens_of}
 use Rattle.cert_check.specs.ExpectedItems.{Basis, ask_row}
 use Rattle.cert_check.specs.LineGrammars.{Ending, whole_at, bad_line, no_proof, short}
 use Rattle.cert_check.specs.Machine.{basis_of, rows_of}

@@ -7,7 +7,7 @@ use Rattle.league_core.specs.game.Seasons.{AreEventsOf, event_applied, season_af
 use Rattle.result_log.specs.declared.entry.Entry.{Entry}
 use Rattle.result_log.specs.declared.entry.Entry.TheVariants.{Change, Ask, Proofs, End}
 use Rattle.cert_check.specs.declared.expected.ReportKind.{ReportKind}
-use Rattle.cert_check.specs.LineLists.{line_number_at}
+use Rattle.kept_lines.specs.LineLists.{line_number_at}
 use Rattle.cert_check.specs.ExpectedItems.{Basis}
 use Rattle.cert_check.specs.LineGrammars.{Ending, whole_at, bad_line, no_proof, short}
 use Rattle.cert_check.specs.Machine.{basis_of}

@@ -13,7 +13,8 @@ ghost use Rattle.par_check.specs.Checked.{IsToldByItems};
 use crate::asks::{Asks, Cut, Item, advance};
 use crate::item_rows::{row_at, rows_in_answer};
 use crate::outline::outline;
-use cert_check::{AskedPart, CheckStop, CheckStopAt, LineList, PartRead, Report};
+use cert_check::{AskedPart, CheckStop, CheckStopAt, PartRead, Report};
+use kept_lines::LineList;
 use league_core::{OutOfMemory, Season, Sheet};
 use std::alloc::Global;
 

@@ -10,10 +10,11 @@ ghost use Rattle.cert_check.specs.inside.InputCalls.{outcome_after_sheet, IsShor
 
 use crate::feed_report::report_outcome;
 use cert_check::{
-    CheckFailure, CheckOutcome, FeedSoFar, LineList, LinesStop, ReportFault, ReportKind, read_feed,
+    CheckFailure, CheckOutcome, FeedSoFar, LinesStop, ReportFault, ReportKind, read_feed,
     read_lines,
 };
 use fixture_sheet::{SheetStop, read_sheet};
+use kept_lines::LineList;
 use league_core::Sheet;
 use port_core::{LineReader, ReadStop, Source};
 use result_log::{Entry, FeedStop};

@@ -11,9 +11,9 @@ ghost use Rattle.par_check.specs.Shapes.{shape_of, shape_of_scores, shapes_in, s
 ghost use Rattle.par_check.specs.Outlines.{question_of, shape_in, shapes_left};
 
 use crate::item_due::{DueAfter, ItemDue, ItemRow, TreeDue};
-use cert_check::{Head, Report, RowWord};
+use cert_check::{Head, Report};
 use league_core::Claim;
-use line_tokens::TreeKind;
+use line_tokens::{RowWord, TreeKind};
 
 /// Behind the row of an item, if it has a word.
 pub fn behind_word(word: Option<RowWord>) -> Option<DueAfter>

@@ -2,13 +2,15 @@
 
 ghost use Rattle.std.specs.Prelude.{◌≡◌, ◌<◌, ◌≤◌, IfOk, IfSome, length, option_map};
 ghost use Rattle.league_core.specs.game.Seasons.{IsLeague};
-ghost use Rattle.cert_check.specs.LineLists.{line_number_at, tokens_of};
+ghost use Rattle.kept_lines.specs.LineLists.{line_number_at};
+ghost use Rattle.line_tokens.specs.Tokens.{tokens_of};
 ghost use Rattle.cert_check.specs.Machine.{basis_of, rows_of};
 ghost use Rattle.par_check.specs.Cuts.{unproved_of};
 
 use crate::asks::Item;
 use crate::item_rows::row_at;
-use cert_check::{AskedPart, CheckStopAt, LineList, Report, ReportKind};
+use cert_check::{AskedPart, CheckStopAt, Report, ReportKind};
+use kept_lines::LineList;
 use league_core::{OutOfMemory, Season, Sheet};
 use std::alloc::Global;
 

@@ -3,7 +3,8 @@
 ghost use Rattle.std.specs.Prelude.{◌≡◌, ◌<◌, ◌+◌, ◌^◌, true};
 
 use crate::asks::Asks;
-use cert_check::{CheckStopAt, LineList};
+use cert_check::CheckStopAt;
+use kept_lines::LineList;
 use league_core::Sheet;
 use std::alloc::Global;
 

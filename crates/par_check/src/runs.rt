@@ -5,7 +5,7 @@ ghost use Rattle.par_check.specs.Places.{IsIn, IsWholeReport};
 
 use crate::item_rows::rows_in_answer;
 use crate::places::{Place, Run, Whole};
-use cert_check::LineList;
+use kept_lines::LineList;
 use league_core::OutOfMemory;
 
 /// How many lines are cut, and how many of them each run has at least.

@@ -34,13 +34,13 @@ use Rattle.fixture_sheet.specs.Fields.{without_padding}
 use Rattle.line_tokens.specs.declared.token.Token.{Token}
 use Rattle.line_tokens.specs.declared.token.Token.TheVariants.{Row, Proof}
 use Rattle.line_tokens.specs.LineRanges.{is_reason_for, is_set_for, name_of_club}
-use Rattle.cert_check.specs.inside.WrittenLines.{IsWritable}
-use Rattle.cert_check.specs.inside.WrittenReports.{are_within_line}
-use Rattle.cert_check.proofs.BodyLemmas.{HasBody, HaveBodies, proof_body}
-use Rattle.cert_check.proofs.KeptLemmas.{clubs-kept, kept_node, kept_reason, kept_tree}
-use Rattle.cert_check.proofs.KeptLemmas.{reason-kept}
-use Rattle.cert_check.proofs.RowBackLemmas.{body_within, row_back}
-use Rattle.cert_check.proofs.WithinLemmas.{names_fit, number_bytes}
+use Rattle.report_lines.specs.inside.WrittenLines.{IsWritable}
+use Rattle.report_lines.specs.inside.WrittenReports.{are_within_line}
+use Rattle.report_lines.proofs.BodyLemmas.{HasBody, HaveBodies, proof_body}
+use Rattle.report_lines.proofs.KeptLemmas.{clubs-kept, kept_node, kept_reason, kept_tree}
+use Rattle.report_lines.proofs.KeptLemmas.{reason-kept}
+use Rattle.report_lines.proofs.RowBackLemmas.{body_within, row_back}
+use Rattle.report_lines.proofs.WithinLemmas.{names_fit, number_bytes}
 use Rattle.pool_save.specs.SavedTexts.{IsSavedNode, end_fields, is_node_for, saved_fields}
 
 -- ---- rows

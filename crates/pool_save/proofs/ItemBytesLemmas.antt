@@ -22,11 +22,11 @@ use Rattle.cert_text.specs.ExampleLines.{text_of_proof_lines}
 use Rattle.cert_text.specs.Lines.{text_of_proof_line}
 use Rattle.cert_text.specs.TreeLines.{marked_lines}
 use Rattle.line_tokens.specs.declared.token.Token.TheVariants.{Proof}
-use Rattle.cert_check.specs.inside.WrittenReports.{written}
-use Rattle.cert_check.proofs.BodyLemmas.{HaveBodies}
-use Rattle.cert_check.proofs.KeptLemmas.{kept_node, kept_tree, marked_lines-kept}
-use Rattle.cert_check.proofs.KeptLemmas.{texts-kept}
-use Rattle.cert_check.proofs.KeptTreeLemmas.{nodes-kept, refutation-kept, spent-kept}
+use Rattle.report_lines.specs.inside.WrittenReports.{written}
+use Rattle.report_lines.proofs.BodyLemmas.{HaveBodies}
+use Rattle.report_lines.proofs.KeptLemmas.{kept_node, kept_tree, marked_lines-kept}
+use Rattle.report_lines.proofs.KeptLemmas.{texts-kept}
+use Rattle.report_lines.proofs.KeptTreeLemmas.{nodes-kept, refutation-kept, spent-kept}
 use Rattle.answer_rows.specs.NewTrees.{is_all_new}
 use Rattle.answer_rows.specs.Parts.{IsMadeOf}
 use Rattle.pool_save.specs.SavedTexts.{IsSavedNode, AreTreesOf}

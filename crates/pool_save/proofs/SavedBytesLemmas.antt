@@ -18,10 +18,10 @@ use Rattle.cert_text.specs.TreeLines.{marked_lines}
 use Rattle.line_tokens.specs.declared.token.Token.{Token}
 use Rattle.line_tokens.specs.declared.token.Token.TheVariants.{Row, Proof}
 use Rattle.line_tokens.specs.Tokens.{token_of, counted_lines}
-use Rattle.cert_check.specs.inside.WrittenReports.{written}
-use Rattle.cert_check.proofs.BodyLemmas.{HaveBodies}
-use Rattle.cert_check.proofs.WrittenLemmas.{is_ok_ending, lines_given}
-use Rattle.cert_check.proofs.WrittenLemmas.{position_behind}
+use Rattle.report_lines.specs.inside.WrittenReports.{written}
+use Rattle.report_lines.proofs.BodyLemmas.{HaveBodies}
+use Rattle.report_lines.proofs.WrittenLemmas.{is_ok_ending, lines_given}
+use Rattle.report_lines.proofs.WrittenLemmas.{position_behind}
 use Rattle.answer_rows.specs.AskedQuestions.{questions_of}
 use Rattle.answer_rows.proofs.AskedLemmas.{all_are_asked}
 use Rattle.pool_save.specs.SavedTexts.{AreSavedTrees, AreTreesOf}

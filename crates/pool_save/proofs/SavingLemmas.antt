@@ -25,7 +25,7 @@ use Rattle.cert_text.specs.Ranges.{is_in_range, is_test_in_range}
 use Rattle.cert_text.specs.TreeLines.{are_tests_for, marked_lines}
 use Rattle.cert_text.proofs.ProperLemmas.{proper_tests}
 use Rattle.cert_text.proofs.TreeRangeLemmas.{marked_lines_in_range}
-use Rattle.cert_check.proofs.FitLemmas.{FitsAsLine, lines_fit}
+use Rattle.line_tokens.proofs.FitLemmas.{FitsAsLine, lines_fit}
 use Rattle.tree_arena.specs.declared.example.Example.{Example}
 use Rattle.branch_pool.specs.declared.question_state.QuestionState.{QuestionState}
 use Rattle.branch_pool.specs.inside.States.{PoolView, out_count}

@@ -21,7 +21,8 @@ use Rattle.line_tokens.specs.declared.token.Token.{Token}
 use Rattle.cert_check.specs.declared.outcome.CheckOutcome.TheVariants.{Accepted}
 use Rattle.cert_check.specs.declared.expected.ReportKind.{ReportKind}
 use Rattle.cert_check.specs.declared.expected.ReportKind.TheVariants.{Plain, Wide}
-use Rattle.cert_check.specs.Outcomes.{numbered, outcome_of_feed}
+use Rattle.kept_lines.specs.LineLists.{numbered}
+use Rattle.cert_check.specs.Outcomes.{outcome_of_feed}
 use Rattle.cert_check.specs.Outcomes.{outcome_of_report, outcome_of_sheet}
 use Rattle.cert_check.proofs.ReadingLemmas.{sheet_read}
 use Rattle.futmax_main.specs.declared.run_end.RunEnd.{RunEnd}

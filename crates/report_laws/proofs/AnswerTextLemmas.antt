@@ -14,14 +14,15 @@ use Rattle.wide_lines.specs.declared.wide_line.WideLine.TheVariants.{Plain, Near
 use Rattle.line_tokens.specs.declared.token.Token.{Token}
 use Rattle.line_tokens.specs.LineRanges.{name_of_club}
 use Rattle.line_tokens.specs.Tokens.{token_of_wide}
-use Rattle.cert_check.specs.ExpectedItems.{Basis, Expected, text_of_word}
+use Rattle.cert_check.specs.ExpectedItems.{Basis, Expected}
+use Rattle.line_tokens.specs.RowFields.{text_of_word}
 use Rattle.cert_check.specs.inside.Answers.{ShownItem, ShowsWord, AreShown, item_tokens, row_due}
 use Rattle.cert_check.specs.inside.Answers.{unsettled_items}
 use Rattle.cert_check.specs.inside.Calls.{unsettled_in}
-use Rattle.cert_check.specs.inside.WrittenReports.{written}
-use Rattle.cert_check.proofs.KeptLemmas.{text-kept}
-use Rattle.cert_check.proofs.KeptWideLemmas.{kept_wide_line}
-use Rattle.cert_check.proofs.WithinLemmas.{names_fit}
+use Rattle.report_lines.specs.inside.WrittenReports.{written}
+use Rattle.report_lines.proofs.KeptLemmas.{text-kept}
+use Rattle.report_lines.proofs.KeptWideLemmas.{kept_wide_line}
+use Rattle.report_lines.proofs.WithinLemmas.{names_fit}
 use Rattle.answer_rows.specs.declared.word.Word.{Word}
 use Rattle.answer_rows.specs.declared.word.Word.TheVariants.{Clinched, Lost, Possible, Unsettled}
 use Rattle.answer_rows.specs.Items.{AnswerRow, answer_rows, answer_rows_of}

@@ -16,7 +16,7 @@ use Rattle.cert_check.specs.ExpectedItems.{Basis}
 use Rattle.cert_check.specs.LineGrammars.{whole_at}
 use Rattle.cert_check.specs.Machine.{basis_of}
 use Rattle.cert_check.specs.inside.Answers.{answer_tokens}
-use Rattle.cert_check.specs.inside.WrittenReports.{written}
+use Rattle.report_lines.specs.inside.WrittenReports.{written}
 use Rattle.cert_check.proofs.AnswerLemmas.{answer_accepted}
 use Rattle.answer_rows.specs.Items.{AnswerRow, answer_rows}
 use Rattle.answer_rows.specs.Parts.{club_name}

@@ -29,9 +29,9 @@ use Rattle.wide_lines.specs.WideTrees.{wide_preorder}
 use Rattle.wide_lines.specs.WideTreeLines.{plain_wide_line, marked_wide_line, plain_wide_lines}
 use Rattle.wide_lines.specs.WideTreeLines.{marked_wide_lines}
 use Rattle.wide_lines.proofs.WideRangeLemmas.{refutation_in_range, spent_in_range}
-use Rattle.cert_check.specs.declared.expected.RowWord.{RowWord}
-use Rattle.cert_check.specs.declared.expected.RowWord.TheVariants.{Clinched, Lost, Possible}
-use Rattle.cert_check.specs.declared.expected.RowWord.TheVariants.{Unsettled}
+use Rattle.line_tokens.specs.declared.row_word.RowWord.{RowWord}
+use Rattle.line_tokens.specs.declared.row_word.RowWord.TheVariants.{Clinched, Lost, Possible}
+use Rattle.line_tokens.specs.declared.row_word.RowWord.TheVariants.{Unsettled}
 use Rattle.cert_check.specs.ExpectedItems.{Basis}
 use Rattle.cert_check.specs.inside.Answers.{ShowsWord, ShowsSpentHeaded, ShowsExampleOf}
 use Rattle.cert_check.specs.inside.Answers.{ShowsRefutedHeaded}

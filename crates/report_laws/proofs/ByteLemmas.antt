@@ -3,8 +3,8 @@ use Rattle.std.proofs.Common.{sym, ap, subst, List, map, Some}
 use Rattle.std.specs.Prelude.{length}
 use Rattle.league_core.specs.game.Seasons.{unplayed_season}
 use Rattle.line_tokens.specs.declared.token.Token.{Token}
-use Rattle.cert_check.specs.Outcomes.{numbered}
-use Rattle.cert_check.proofs.WrittenLemmas.{written_back}
+use Rattle.kept_lines.specs.LineLists.{numbered}
+use Rattle.report_lines.proofs.WrittenLemmas.{written_back}
 use Rattle.report_laws.specs.inside.AcceptedReports.{AreAnswersWritten}
 use Rattle.report_laws.specs.inside.AcceptedBytes.{WrittenAnswersAreAccepted}
 use Rattle.report_laws.proofs.ReportLemmas.{report_of_answers}

@@ -21,7 +21,7 @@ use Rattle.result_log.proofs.FeedLemmas.{season_after-entry}
 use Rattle.line_tokens.specs.declared.token.Token.{Token}
 use Rattle.cert_check.specs.declared.expected.ReportKind.{ReportKind}
 use Rattle.cert_check.specs.declared.expected.ReportKind.TheVariants.{Plain, Wide}
-use Rattle.cert_check.specs.inside.WrittenReports.{written}
+use Rattle.report_lines.specs.inside.WrittenReports.{written}
 use Rattle.futmax_main.specs.Answers.{IsAnswerTo}
 use Rattle.futmax_main.specs.Courses.{asked_about, first_origin}
 use Rattle.futmax_main.specs.Plays.{Played}

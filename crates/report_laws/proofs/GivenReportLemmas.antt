@@ -11,8 +11,8 @@ use Rattle.port_core.specs.Contents.{input_limit, number_at, position_after, sta
 use Rattle.port_core.specs.Contents.{with_line, with_lines, without_mark, without_return}
 use Rattle.port_core.proofs.LineLemmas.{AreLines-lines_of, concat-lines_of}
 use Rattle.line_tokens.specs.declared.token.Token.{Token}
-use Rattle.cert_check.specs.inside.WrittenReports.{written}
-use Rattle.cert_check.proofs.WithinLemmas.{no_feed}
+use Rattle.report_lines.specs.inside.WrittenReports.{written}
+use Rattle.report_lines.proofs.WithinLemmas.{no_feed}
 use Rattle.report_laws.specs.inside.AcceptedTexts.{input_with_answers, line_ended}
 use Rattle.report_laws.proofs.FrontLemmas.{GivesFront, lines-front}
 use Rattle.report_laws.proofs.LineReadLemmas.{contents-text}

@@ -1,6 +1,6 @@
 -- A word whose lines have no bit of a set past its width is shown as before.
 use Rattle.std.proofs.Common.{◌≡◌, ℕ, ◌+◌, List, [], ◌∷◌, ◌++◌, map, Option, Some, None, refl, ap}
-use Rattle.std.proofs.Common.{ap₂, ◌∙◌, inl, inr}
+use Rattle.std.proofs.Common.{ap₂, ◌∙◌, inl, inr, Bool, ◌&&◌}
 use Rattle.std.proofs.lemmas.List.{map-append}
 use Rattle.league_core.specs.declared.sheet.Sheet.{Sheet}
 use Rattle.league_core.specs.declared.season.Score.{Score}
@@ -14,17 +14,31 @@ use Rattle.cert_text.specs.ExampleLines.{IsExampleInLines, score_line_if}
 use Rattle.cert_text.specs.ExampleLines.{score_lines, lots_line}
 use Rattle.wide_lines.specs.declared.wide_line.WideLine.{WideLine}
 use Rattle.wide_lines.specs.declared.wide_line.WideLine.TheVariants.{Plain}
+use Rattle.wide_lines.specs.declared.wide_reason.WideReason.TheVariants as reason
+use Rattle.wide_lines.specs.WideTrees.{WideTree, open_leaf, refuted_leaf, branch}
+use Rattle.cert_check.specs.declared.expected.ReportKind.{ReportKind}
 use Rattle.cert_check.specs.ExpectedItems.{Basis}
-use Rattle.cert_check.specs.declared.expected.RowWord.{RowWord}
-use Rattle.cert_check.specs.declared.expected.RowWord.TheVariants.{Clinched, Lost, Possible}
-use Rattle.cert_check.specs.declared.expected.RowWord.TheVariants.{Unsettled}
+use Rattle.line_tokens.specs.declared.row_word.RowWord.{RowWord}
+use Rattle.line_tokens.specs.declared.row_word.RowWord.TheVariants.{Clinched, Lost, Possible}
+use Rattle.line_tokens.specs.declared.row_word.RowWord.TheVariants.{Unsettled}
 use Rattle.cert_check.specs.inside.Answers.{ShowsWord, ShowsSpentHeaded, ShowsExampleOf}
-use Rattle.cert_check.specs.inside.Answers.{ShowsRefutedHeaded}
-use Rattle.cert_check.proofs.KeptLemmas.{kept_line}
-use Rattle.cert_check.proofs.KeptWideLemmas.{kept_wide_line, kept_wide_tree, plain_wide-kept}
-use Rattle.cert_check.proofs.KeptWideLemmas.{plain_wide_lines-kept, marked_wide_lines-kept}
-use Rattle.cert_check.proofs.KeptWideLemmas.{wide_refutation-kept, wide_spent-kept}
-use Rattle.cert_check.proofs.KeptWideLemmas.{may_have_leaves-kept}
+use Rattle.cert_check.specs.inside.Answers.{ShowsRefutedHeaded, may_have_leaves}
+use Rattle.report_lines.proofs.KeptLemmas.{kept_line}
+use Rattle.report_lines.proofs.KeptWideLemmas.{kept_wide_line, kept_wide_tree, plain_wide-kept}
+use Rattle.report_lines.proofs.KeptWideLemmas.{plain_wide_lines-kept, marked_wide_lines-kept}
+use Rattle.report_lines.proofs.KeptWideLemmas.{wide_refutation-kept, wide_spent-kept}
+
+-- ---- trees
+
+-- a tree as a type holds its reasons has no other leaves
+may_have_leaves-kept : (kind : ReportKind) (tree : WideTree)
+    → may_have_leaves kind (kept_wide_tree tree) ≡ may_have_leaves kind tree
+may_have_leaves-kept kind open_leaf = refl
+may_have_leaves-kept kind (refuted_leaf (reason.Plain why) fresh) = refl
+may_have_leaves-kept kind (refuted_leaf (reason.Near rival) fresh) = refl
+may_have_leaves-kept kind (branch test fresh yes_half no_half) =
+    ap₂ (λ (yes no : Bool). yes && no) (may_have_leaves-kept kind yes_half)
+    (may_have_leaves-kept kind no_half)
 
 -- ---- examples
 

@@ -25,22 +25,22 @@ use Rattle.wide_lines.proofs.NearTextLemmas.{near_printed}
 use Rattle.line_tokens.specs.declared.token.Token.{Token}
 use Rattle.line_tokens.specs.declared.token.Token.TheVariants.{Row, Proof, Near}
 use Rattle.line_tokens.specs.Tokens.{token_of_wide}
-use Rattle.cert_check.specs.declared.expected.RowWord.{RowWord}
-use Rattle.cert_check.specs.declared.expected.RowWord.TheVariants.{Clinched, Lost, Possible}
-use Rattle.cert_check.specs.declared.expected.RowWord.TheVariants.{Unsettled}
-use Rattle.cert_check.specs.ExpectedItems.{ask_fields, text_of_word, verdict_fields}
-use Rattle.cert_check.specs.LineLists.{tokens_of}
-use Rattle.cert_check.specs.Outcomes.{numbered}
-use Rattle.cert_check.specs.inside.WrittenReports.{are_within_line, written, IsLineRead, AreRead}
-use Rattle.cert_check.proofs.RowBackLemmas.{body_within}
-use Rattle.cert_check.proofs.WrittenLemmas.{written_back}
-use Rattle.cert_check.proofs.KeptLemmas.{line-kept, kept_line}
-use Rattle.cert_check.proofs.KeptWideLemmas.{kept_wide_line}
+use Rattle.line_tokens.specs.declared.row_word.RowWord.{RowWord}
+use Rattle.line_tokens.specs.declared.row_word.RowWord.TheVariants.{Clinched, Lost, Possible}
+use Rattle.line_tokens.specs.declared.row_word.RowWord.TheVariants.{Unsettled}
+use Rattle.line_tokens.specs.RowFields.{ask_fields, text_of_word, verdict_fields}
+use Rattle.line_tokens.specs.Tokens.{tokens_of}
+use Rattle.kept_lines.specs.LineLists.{numbered}
+use Rattle.report_lines.specs.inside.WrittenReports.{are_within_line, written, IsLineRead, AreRead}
+use Rattle.report_lines.proofs.RowBackLemmas.{body_within}
+use Rattle.report_lines.proofs.WrittenLemmas.{written_back}
+use Rattle.report_lines.proofs.KeptLemmas.{line-kept, kept_line}
+use Rattle.report_lines.proofs.KeptWideLemmas.{kept_wide_line}
 use Rattle.report_laws.proofs.BriefLemmas.{is_brief, is_wide_brief, may_show}
 use Rattle.report_laws.proofs.LineReadLemmas.{contents-text, ending-with}
 use Rattle.report_laws.proofs.RowSizeLemmas.{ask_row-size, verdict_row-size}
 use Rattle.report_laws.proofs.SizeLemmas.{line-size, near-size}
-use Rattle.cert_check.proofs.WithinLemmas.{IsRowName, no_feed, number_bytes, printed_bytes}
+use Rattle.report_lines.proofs.WithinLemmas.{IsRowName, no_feed, number_bytes, printed_bytes}
 
 -- a line that an answer may have: bytes without LF, and an LF, no more than a line has
 pub record IsLinePut (told : Token) : Type 0 where

@@ -10,7 +10,7 @@ use Rattle.result_log.specs.declared.entry.Entry.{Entry}
 use Rattle.result_log.specs.declared.entry.Entry.TheVariants.{Change, Ask, Proofs, End}
 use Rattle.line_tokens.specs.declared.token.Token.{Token}
 use Rattle.line_tokens.specs.Tokens.{counted_lines}
-use Rattle.cert_check.specs.LineLists.{tokens_of}
+use Rattle.line_tokens.specs.Tokens.{tokens_of}
 use Rattle.cert_check.specs.LineGrammars.{Ending, whole_at}
 use Rattle.cert_check.specs.Machine.{ending_of, part_of_ask}
 use Rattle.cert_check.specs.declared.expected.ReportKind.{ReportKind}

@@ -9,10 +9,10 @@ use Rattle.csv.specs.Writing.{default_writer, escaped, field_text, fields_text, 
 use Rattle.csv.specs.Writing.{quoted, row_body}
 use Rattle.csv.specs.Writing.{is_blank as csv_blank}
 use Rattle.cert_text.specs.Rows.{text_of_row}
-use Rattle.cert_check.specs.declared.expected.RowWord.{RowWord}
-use Rattle.cert_check.specs.declared.expected.RowWord.TheVariants.{Clinched, Lost, Possible}
-use Rattle.cert_check.specs.declared.expected.RowWord.TheVariants.{Unsettled}
-use Rattle.cert_check.specs.ExpectedItems.{ask_fields, text_of_word, verdict_fields}
+use Rattle.line_tokens.specs.declared.row_word.RowWord.{RowWord}
+use Rattle.line_tokens.specs.declared.row_word.RowWord.TheVariants.{Clinched, Lost, Possible}
+use Rattle.line_tokens.specs.declared.row_word.RowWord.TheVariants.{Unsettled}
+use Rattle.line_tokens.specs.RowFields.{ask_fields, text_of_word, verdict_fields}
 
 escaped-size : (field : List ℕ) → length (escaped default_writer field) ≤ 2 * length field
 unfolding escaped

@@ -7,7 +7,8 @@ ghost use Rattle.league_core.specs.game.Seasons.{IsEventOf, IsLeague, unplayed_s
 ghost use Rattle.league_core.specs.game.Sheets.{IsWithinLimits};
 ghost use Rattle.par_check.specs.Cuts.{AreAsks, IsItemIn};
 
-use cert_check::{CheckStop, LineList, ReportKind};
+use cert_check::{CheckStop, ReportKind};
+use kept_lines::LineList;
 use league_core::{Event, OutOfMemory, Score, Season, Sheet};
 use par_check::{Asks, Cut, Item, cut, judge_item};
 use sample_leagues::{Sample, sample_of};

@@ -5,8 +5,9 @@ ghost use Rattle.std.specs.Prelude.{IsTrue};
 ghost use Rattle.league_core.specs.game.Questions.{IsQuestionOf};
 ghost use Rattle.league_core.specs.game.Seasons.{IsLeague};
 
-use cert_check::{Accepted, AskedPart, LineList, ReportKind, check};
+use cert_check::{Accepted, AskedPart, ReportKind, check};
 use check_bounds::holds_in;
+use kept_lines::LineList;
 use league_core::{Claim, Question, Reason, Sheet};
 use sample_leagues::{Sample, sample_of};
 use std::alloc::Global;

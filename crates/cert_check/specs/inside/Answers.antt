@@ -17,11 +17,12 @@ use Rattle.wide_lines.specs.WideTreeLines.{with_wide_spent_head}
 use Rattle.line_tokens.specs.declared.token.Token.{Token}
 use Rattle.line_tokens.specs.declared.token.Token.TheVariants.{Row}
 use Rattle.line_tokens.specs.Tokens.{token_of_wide}
-use Rattle.cert_check.specs.declared.expected.RowWord.{RowWord}
-use Rattle.cert_check.specs.declared.expected.RowWord.TheVariants.{Clinched, Lost, Possible}
-use Rattle.cert_check.specs.declared.expected.RowWord.TheVariants.{Unsettled}
+use Rattle.line_tokens.specs.declared.row_word.RowWord.{RowWord}
+use Rattle.line_tokens.specs.declared.row_word.RowWord.TheVariants.{Clinched, Lost, Possible}
+use Rattle.line_tokens.specs.declared.row_word.RowWord.TheVariants.{Unsettled}
 use Rattle.cert_check.specs.declared.expected.ReportKind.{ReportKind}
-use Rattle.cert_check.specs.ExpectedItems.{Basis, Expected, verdict_row, ask_fields, verdict_fields}
+use Rattle.cert_check.specs.ExpectedItems.{Basis, Expected, verdict_row}
+use Rattle.line_tokens.specs.RowFields.{ask_fields, verdict_fields}
 use Rattle.cert_check.specs.ExpectedItems.{may_have}
 use Rattle.line_tokens.specs.LineRanges.{name_of_club}
 use Rattle.cert_check.specs.LineGrammars.{whole_at}

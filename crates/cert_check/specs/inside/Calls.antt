@@ -16,11 +16,12 @@ use Rattle.cert_check.specs.declared.stop.CheckStop.{CheckStop}
 use Rattle.cert_check.specs.declared.stop.CheckStop.TheVariants as stop
 use Rattle.cert_check.specs.declared.stop.CheckStopAt.{CheckStopAt}
 use Rattle.cert_check.specs.declared.stop.CheckStopAt.TheVariants as halt
-use Rattle.cert_check.specs.declared.expected.RowWord.{RowWord}
-use Rattle.cert_check.specs.declared.expected.RowWord.TheVariants.{Clinched, Lost, Possible}
-use Rattle.cert_check.specs.declared.expected.RowWord.TheVariants.{Unsettled}
+use Rattle.line_tokens.specs.declared.row_word.RowWord.{RowWord}
+use Rattle.line_tokens.specs.declared.row_word.RowWord.TheVariants.{Clinched, Lost, Possible}
+use Rattle.line_tokens.specs.declared.row_word.RowWord.TheVariants.{Unsettled}
 use Rattle.line_tokens.specs.Tokens.{counts, counted_lines}
-use Rattle.cert_check.specs.LineLists.{NumberedLine, tokens_of, line_number_at}
+use Rattle.kept_lines.specs.LineLists.{NumberedLine, line_number_at}
+use Rattle.line_tokens.specs.Tokens.{tokens_of}
 use Rattle.line_tokens.specs.declared.token.Token.TheVariants.{Blank, Row, Proof, Near, Unknown}
 use Rattle.cert_check.specs.declared.item.PartRead.{PartRead}
 use Rattle.cert_check.specs.declared.tree.TreeSpec.{TreeSpec}
@@ -36,7 +37,8 @@ use Rattle.league_core.specs.game.Questions.{holds_at}
 use Rattle.league_core.specs.game.Ranking.{are_lots}
 use Rattle.cert_text.specs.declared.proof_line.ProofLine.TheVariants as line
 use Rattle.check_bounds.specs.inside.Trails.{TrailView, root_of}
-use Rattle.cert_check.specs.ExpectedItems.{is_path_for, lots_if_drawn}
+use Rattle.line_tokens.specs.LineRanges.{is_path_for}
+use Rattle.cert_check.specs.ExpectedItems.{lots_if_drawn}
 use Rattle.cert_check.specs.Machine.{ending_of, with_unsettled}
 use Rattle.cert_check.specs.Machine.{part_of_ask}
 use Rattle.cert_check.specs.inside.Truths.{AreTrueRows}

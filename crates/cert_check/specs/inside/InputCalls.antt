@@ -35,7 +35,8 @@ use Rattle.cert_check.specs.declared.outcome.CheckFailure.{CheckFailure}
 use Rattle.cert_check.specs.declared.outcome.CheckFailure.TheVariants as failure
 use Rattle.cert_check.specs.declared.expected.ReportKind.{ReportKind}
 use Rattle.cert_check.specs.Outcomes.{ReportInput, ReportProgressView, outcome_of, outcome_of_feed}
-use Rattle.cert_check.specs.Outcomes.{outcome_of_report, outcome_after, numbered}
+use Rattle.cert_check.specs.Outcomes.{outcome_of_report, outcome_after}
+use Rattle.kept_lines.specs.LineLists.{numbered}
 
 -- ---- the whole input
 

@@ -9,13 +9,14 @@ use Rattle.result_log.specs.declared.entry.Entry.TheVariants.{Change, Ask, Proof
 use Rattle.result_log.specs.Feeds.{Feed, feed_of}
 use Rattle.line_tokens.specs.Tokens.{counted_lines}
 use Rattle.cert_check.specs.declared.expected.ReportKind.{ReportKind}
-use Rattle.cert_check.specs.LineLists.{tokens_of}
+use Rattle.line_tokens.specs.Tokens.{tokens_of}
 use Rattle.cert_check.specs.Machine.{basis_of}
 use Rattle.cert_check.specs.inside.Calls.{SaysTruly}
 use Rattle.cert_check.specs.declared.outcome.CheckOutcome.TheVariants.{Accepted}
 use Rattle.cert_check.specs.Outcomes.{ReportInput, ReportProgressView, progress_with}
 use Rattle.cert_check.specs.Outcomes.{progress_after}
-use Rattle.cert_check.specs.Outcomes.{first_progress, numbered, outcome_of}
+use Rattle.cert_check.specs.Outcomes.{first_progress, outcome_of}
+use Rattle.kept_lines.specs.LineLists.{numbered}
 
 -- each part from here on tells the truth of the season at its ask, when these entries of the feed
 -- are left, and nothing that counts comes after the last

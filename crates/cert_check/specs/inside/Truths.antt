@@ -3,11 +3,12 @@ use Rattle.std.specs.Prelude.{◌≡◌, ℕ, true, List, [], ◌∷◌, ◌++�
 use Rattle.league_core.specs.game.Verdicts.{IsClinched, IsLost, IsPossible}
 use Rattle.line_tokens.specs.declared.token.Token.{Token}
 use Rattle.line_tokens.specs.declared.token.Token.TheVariants.{Row}
-use Rattle.cert_check.specs.declared.expected.RowWord.{RowWord}
-use Rattle.cert_check.specs.declared.expected.RowWord.TheVariants.{Clinched, Lost, Possible}
-use Rattle.cert_check.specs.declared.expected.RowWord.TheVariants.{Unsettled}
-use Rattle.cert_check.specs.ExpectedItems.{Basis, Expected, ask_row, verdict_row, ask_fields}
-use Rattle.cert_check.specs.ExpectedItems.{verdict_fields}
+use Rattle.line_tokens.specs.declared.row_word.RowWord.{RowWord}
+use Rattle.line_tokens.specs.declared.row_word.RowWord.TheVariants.{Clinched, Lost, Possible}
+use Rattle.line_tokens.specs.declared.row_word.RowWord.TheVariants.{Unsettled}
+use Rattle.cert_check.specs.ExpectedItems.{Basis, Expected, ask_row, verdict_row}
+use Rattle.line_tokens.specs.RowFields.{ask_fields}
+use Rattle.line_tokens.specs.RowFields.{verdict_fields}
 use Rattle.line_tokens.specs.LineRanges.{name_of_club}
 use Rattle.cert_check.specs.Machine.{part_of_ask}
 use Rattle.cert_check.specs.inside.Grammar.{AreParts}

@@ -10,7 +10,7 @@ use Rattle.league_core.specs.game.Sheets.{IsWithinLimits}
 use Rattle.league_core.specs.search.Trees.{Tree}
 use Rattle.port_core.specs.Lines.{lines_of}
 use Rattle.port_core.specs.Contents.{Position, contents_from}
-use Rattle.cert_check.specs.inside.WrittenReports.{written}
+use Rattle.report_lines.specs.inside.WrittenReports.{written}
 use Rattle.answer_rows.specs.AskedQuestions.{questions_of}
 use Rattle.pool_save.specs.SavedTexts.{AreTreesOf, IsSavedTree, lines_of_saved}
 use Rattle.pool_save.specs.SavedReadings.{nothing_saved, saved_reading_of}

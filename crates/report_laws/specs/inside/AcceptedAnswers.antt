@@ -4,8 +4,8 @@ use Rattle.league_core.specs.declared.sheet.Sheet.{Sheet}
 use Rattle.league_core.specs.game.Results.{Results}
 use Rattle.wide_lines.specs.declared.wide_line.WideLine.TheVariants as line
 use Rattle.line_tokens.specs.declared.token.Token.{Token}
-use Rattle.cert_check.specs.declared.expected.RowWord.{RowWord}
-use Rattle.cert_check.specs.declared.expected.RowWord.TheVariants as row
+use Rattle.line_tokens.specs.declared.row_word.RowWord.{RowWord}
+use Rattle.line_tokens.specs.declared.row_word.RowWord.TheVariants as row
 use Rattle.cert_check.specs.declared.expected.ReportKind.{ReportKind}
 use Rattle.cert_check.specs.declared.expected.ReportKind.TheVariants.{Plain, Wide}
 use Rattle.cert_check.specs.LineGrammars.{whole_at}

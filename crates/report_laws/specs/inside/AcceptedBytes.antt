@@ -10,7 +10,7 @@ use Rattle.line_tokens.specs.declared.token.Token.{Token}
 use Rattle.cert_check.specs.declared.outcome.CheckOutcome.TheVariants.{Accepted}
 use Rattle.cert_check.specs.declared.expected.ReportKind.{ReportKind}
 use Rattle.cert_check.specs.Outcomes.{outcome_of_report}
-use Rattle.cert_check.specs.inside.WrittenReports.{AreRead, written}
+use Rattle.report_lines.specs.inside.WrittenReports.{AreRead, written}
 use Rattle.report_laws.specs.inside.AcceptedReports.{AreAnswersWritten, rows_written}
 
 -- if an input has a sheet, a feed and the record `proofs`, and after them the bytes of the answers

@@ -2,7 +2,8 @@ use Rattle.std.proofs.Common.{subst, arith}
 use Rattle.std.proofs.lemmas.List.{length-map}
 use Rattle.cert_check.specs.declared.stop.CheckStopAt.{CheckStopAt}
 use Rattle.line_tokens.specs.Tokens.{token_of}
-use Rattle.cert_check.specs.LineLists.{NumberedLine, tokens_of}
+use Rattle.kept_lines.specs.LineLists.{NumberedLine}
+use Rattle.line_tokens.specs.Tokens.{tokens_of}
 use Rattle.cert_check.specs.LineGrammars.{bad_line, no_proof, short}
 use Rattle.cert_check.specs.Machine.{part_of_ask}
 use Rattle.cert_check.specs.inside.Calls.{ReportView, AllHalt}

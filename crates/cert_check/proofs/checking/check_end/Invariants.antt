@@ -1,6 +1,6 @@
 use Rattle.std.proofs.Common.{◌≡◌, drop}
 use Rattle.line_tokens.specs.Tokens.{counted_lines}
-use Rattle.cert_check.specs.LineLists.{tokens_of}
+use Rattle.line_tokens.specs.Tokens.{tokens_of}
 use Rattle.cert_check.proofs.checking.check_end.Given as goal
 
 abbrev pub invariant-loop-at : goal.invariant-loop-at

@@ -1,6 +1,6 @@
 use Rattle.std.proofs.Common.{◌<◌, ◌+◌, ◌∙◌, ℕ, arith, ap, subst, sym, length}
 use Rattle.std.proofs.lemmas.List.{length-map}
-use Rattle.cert_check.specs.LineLists.{NumberedLine}
+use Rattle.kept_lines.specs.LineLists.{NumberedLine}
 use Rattle.line_tokens.specs.Tokens.{token_of}
 use Rattle.cert_check.specs.inside.Calls.{ReportView}
 use Rattle.par_check.specs.Cuts.{KeepsItems}

@@ -1,8 +1,0 @@
-use Rattle.std.proofs.Common.{ap, length, arith}
-use Rattle.cert_check.proofs.LineBlockLemmas.{lines-length}
-use Rattle.cert_check.proofs.line_block.LineBlock.len.Goals as goal
-
-pub returns : goal.returns
-returns c =
-    let block = c.self.inside in
-    omega (arith, ap length c.self.view_is, lines-length block.bytes.items block.count)

@@ -1,0 +1,5 @@
+-- Heads of lines, places among them, blocks, and lists of blocks.
+pub mod LineHeadLemmas
+pub mod LinePlaceLemmas
+pub mod LineBlockLemmas
+pub mod LineListLemmas
