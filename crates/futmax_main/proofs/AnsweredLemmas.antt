@@ -35,10 +35,10 @@ use Rattle.cert_text.specs.ExampleLines.{text_of_proof_lines}
 use Rattle.final_rank.proofs.PlaceLemmas.{best_is, worst_is}
 use Rattle.final_rank.proofs.TierLemmas.{below_clubs}
 use Rattle.answer_rows.specs.Items.{AnswerRow, answer_rows}
-use Rattle.verdict_run.specs.inside.SeasonAnswers.{AnswerItem, IsKnownItem}
-use Rattle.verdict_run.proofs.AnswerLemmas.{season_answered}
+use Rattle.answer_laws.specs.inside.SeasonAnswers.{AnswerItem, IsKnownItem}
+use Rattle.answer_laws.proofs.AnswerLemmas.{season_answered}
 use Rattle.qual_scores.proofs.SeasonScoreLemmas.{scores_there}
-use Rattle.verdict_run.proofs.TableLemmas.{table_there}
+use Rattle.answer_laws.proofs.TableLemmas.{table_there}
 use Rattle.answer_rows.specs.declared.table_row.TableRow.{TableRow}
 use Rattle.answer_rows.specs.Parts.{IsMadeOf, club_name}
 use Rattle.answer_rows.specs.Rows.{ask_row}

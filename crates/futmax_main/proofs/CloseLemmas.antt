@@ -16,9 +16,9 @@ use Rattle.result_log.specs.inside.FeedParts.{LiveReading}
 use Rattle.result_log.specs.inside.Rounds.{EndsRound, Spot}
 use Rattle.result_log.specs.inside.LastReads.{GivesEvents, StopsAtClose}
 use Rattle.branch_pool.specs.inside.States.{PoolView}
-use Rattle.worker_gate.specs.declared.round.RoundEnd.{RoundEnd}
-use Rattle.worker_gate.specs.declared.round.RoundEnd.TheVariants.{Ask, End, Stop}
-use Rattle.worker_gate.specs.inside.Rounds.{close_of}
+use Rattle.plain_rounds.specs.declared.round.RoundEnd.{RoundEnd}
+use Rattle.plain_rounds.specs.declared.round.RoundEnd.TheVariants.{Ask, End, Stop}
+use Rattle.plain_rounds.specs.inside.Rounds.{close_of}
 use Rattle.futmax_main.specs.declared.status.Status.{Status}
 use Rattle.futmax_main.specs.declared.status.Status.TheVariants.{Done, BadWords, BadSheet, BadFeed}
 use Rattle.futmax_main.specs.declared.status.Status.TheVariants.{ReadFault, WriteFault, OutOfMemory}

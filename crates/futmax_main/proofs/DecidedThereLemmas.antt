@@ -22,8 +22,8 @@ use Rattle.answer_rows.specs.Parts.{IsMadeOf, club_name}
 use Rattle.answer_rows.specs.Rows.{ask_row, verdict_row}
 use Rattle.decided_rows.specs.Decisions.{IsDecidedItem, RefutesWideIfAsked}
 use Rattle.decided_rows.specs.DecidedTexts.{IsDecidedItemText, IsDecidedText, text_of_wide_lines}
-use Rattle.verdict_run.specs.inside.SeasonAnswers.{AnswerItem, IsKnownItem}
-use Rattle.verdict_run.proofs.AnswerLemmas.{season_answered}
+use Rattle.answer_laws.specs.inside.SeasonAnswers.{AnswerItem, IsKnownItem}
+use Rattle.answer_laws.proofs.AnswerLemmas.{season_answered}
 
 -- proof lines as wide ones
 wide : List ProofLine → List WideLine

@@ -19,11 +19,11 @@ use Rattle.result_log.specs.inside.Readings.{IsParsedThere, answer_as}
 use Rattle.result_log.specs.inside.LastReads.{GivesEvents, StopsAtClose}
 use Rattle.result_log.specs.inside.Rounds.{BreaksOff, EndsRound, Spot, live_entry}
 use Rattle.branch_pool.specs.inside.States.{PoolView, out_count}
-use Rattle.worker_gate.specs.declared.round.Round.{Round}
-use Rattle.worker_gate.specs.declared.round.RoundEnd.{RoundEnd}
-use Rattle.worker_gate.specs.declared.round.RoundEnd.TheVariants as round
-use Rattle.worker_gate.specs.inside.Reports.{ReportsTo}
-use Rattle.worker_gate.specs.inside.Rounds.{close_of}
+use Rattle.plain_rounds.specs.declared.round.Round.{Round}
+use Rattle.plain_rounds.specs.declared.round.RoundEnd.{RoundEnd}
+use Rattle.plain_rounds.specs.declared.round.RoundEnd.TheVariants as round
+use Rattle.plain_rounds.specs.inside.Reports.{ReportsTo}
+use Rattle.plain_rounds.specs.inside.Rounds.{close_of}
 use Rattle.what_if.specs.declared.step.Step.{Step}
 use Rattle.what_if.specs.declared.step.Step.TheVariants as step
 use Rattle.what_if.specs.Steps.{forget, step_of}

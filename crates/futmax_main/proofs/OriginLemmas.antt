@@ -13,7 +13,7 @@ use Rattle.result_log.specs.inside.FeedParts.{LiveReading, entry_after}
 use Rattle.branch_pool.specs.inside.States.{PoolView}
 use Rattle.branch_pool.specs.inside.Steps.{Changes}
 use Rattle.verdict_run.proofs.ReportedLemmas.{unworked_changed}
-use Rattle.worker_gate.specs.inside.Reports.{ReportsTo, nothing_reported, one_report_more}
+use Rattle.plain_rounds.specs.inside.Reports.{ReportsTo, nothing_reported, one_report_more}
 use Rattle.command_words.specs.declared.command.Mode.{Mode}
 use Rattle.command_words.specs.declared.command.Mode.TheVariants.{WhatIf, Save, Resume}
 use Rattle.futmax_main.specs.Courses.{Origin, awaits_saved, saved_at, saved_since}

@@ -26,7 +26,7 @@ use Rattle.line_tokens.proofs.FitLemmas.{FitsAsLine, lines_fit}
 use Rattle.answer_rows.specs.Parts.{IsMadeOf}
 use Rattle.answer_rows.specs.AskedQuestions.{questions_of}
 use Rattle.answer_rows.proofs.AskedLemmas.{all_are_asked}
-use Rattle.verdict_run.proofs.DecidedLemmas.{HasExampleInBox, RefutesBelow, zone_is_decided}
+use Rattle.answer_laws.proofs.DecidedLemmas.{HasExampleInBox, RefutesBelow, zone_is_decided}
 use Rattle.pool_save.specs.SavedTexts.{IsSavedNode, IsSavedTree, end_fields}
 use Rattle.pool_save.specs.SavedItems.{IsItemSaved, IsSavedOf, saved_item_text}
 

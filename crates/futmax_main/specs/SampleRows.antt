@@ -3,8 +3,8 @@ use Rattle.std.specs.Prelude.{◌≡◌, ℕ, List, [], ◌∷◌, Option, codes
 use Rattle.std.specs.Io.KnownBytes.{append_known}
 use Rattle.port_core.specs.Ports.{AppendsPrefix, Rose}
 use Rattle.cert_text.specs.Rows.{text_of_row}
-use Rattle.verdict_run.specs.declared.counts.Counts.{Counts}
-use Rattle.verdict_run.specs.SampleCounts.{IsCountOfSample}
+use Rattle.sample_counts.specs.declared.counts.Counts.{Counts}
+use Rattle.sample_counts.specs.SampleCounts.{IsCountOfSample}
 use Rattle.futmax_main.specs.declared.status.Status.{Status}
 use Rattle.futmax_main.specs.declared.status.Status.TheVariants.{Done, WriteFault, OutOfMemory}
 

@@ -3,7 +3,7 @@
 ghost use Rattle.std.specs.Prelude.{◌≡◌, ◌≢◌, IfOk, Ok, OnErr};
 ghost use Rattle.result_log.specs.inside.Readings.{answer_as};
 ghost use Rattle.result_log.specs.inside.Rounds.{spot_of};
-ghost use Rattle.worker_gate.specs.inside.Rounds.{IsNoEvent, close_of};
+ghost use Rattle.plain_rounds.specs.inside.Rounds.{IsNoEvent, close_of};
 ghost use Rattle.what_if.specs.Steps.{forget};
 ghost use Rattle.futmax_main.specs.inside.Halts.{about_at};
 ghost use Rattle.futmax_main.specs.inside.RoundHalts.{HaltsRound, StarvesRound, halt_at, halt_of};
@@ -13,12 +13,13 @@ use crate::setup::Setup;
 use branch_pool::Pool;
 use command_words::Mode;
 use league_core::{OutOfMemory, Sheet};
+use plain_rounds::{ParsedRound, Round, RoundEnd, end_of, read_parsed, read_round};
 use port_core::{LineReader, Source};
 use result_log::{Entry, FeedStop};
 use std::sync::Wait;
 use std::thread::Threads;
 use what_if::{Step, Steps};
-use worker_gate::{Gate, ParsedRound, Round, RoundEnd, end_of, read_parsed, read_round, run_round};
+use worker_gate::{Gate, run_round};
 
 /// Where a round of the feed halted, and the fixture that it halted at an ask about, if it did.
 #[derive(Drop)]

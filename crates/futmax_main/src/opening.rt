@@ -16,11 +16,11 @@ ghost use Rattle.futmax_main.specs.inside.Turns.{SavedGives};
 use crate::refuse::{InputStop, stop_of_feed, stop_of_save, unsaved};
 use branch_pool::Pool;
 use league_core::OutOfMemory;
+use plain_rounds::read_parsed;
 use pool_save::{read_saved, take_up};
 use port_core::{LineReader, Source};
 use result_log::{Entries, Entry};
 use std::alloc::Global;
-use worker_gate::read_parsed;
 
 /// Reads the feed and the saved text after it, and goes on from its trees. If the source fails, a
 /// line is refused or memory runs out, the pool is gone.

@@ -9,8 +9,8 @@ use answer_rows::{number_field, put_row, text_field};
 use cert_text::write_row;
 use league_core::OutOfMemory;
 use port_core::Sink;
+use sample_counts::{Counts, count_sample};
 use std::alloc::Global;
-use verdict_run::{Counts, count_sample};
 
 /// Works on the league of a number, and writes one row of counts.
 pub fn run_sample<K: Sink>(alloc: Global, seed: u64, sink: &mut K) -> Status

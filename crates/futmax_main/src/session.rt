@@ -9,7 +9,7 @@ ghost use Rattle.port_core.specs.Readers.{stream_of};
 ghost use Rattle.fixture_sheet.specs.LastReads.{ReadsOnWay};
 ghost use Rattle.result_log.specs.inside.LastReads.{GivesEvents, StopsAtClose};
 ghost use Rattle.result_log.specs.inside.Rounds.{EndsRound, spot_of};
-ghost use Rattle.worker_gate.specs.inside.Rounds.{close_of};
+ghost use Rattle.plain_rounds.specs.inside.Rounds.{close_of};
 ghost use Rattle.futmax_main.specs.LastReads.{StopsSession};
 ghost use Rattle.futmax_main.specs.Top.{Counts, Serves};
 ghost use Rattle.futmax_main.specs.Courses.{awaits_saved, course_from, first_origin};
@@ -33,11 +33,12 @@ use branch_pool::Pool;
 use command_words::Mode;
 use fixture_sheet::read_sheet;
 use league_core::{OutOfMemory, Sheet};
+use plain_rounds::RoundEnd;
 use port_core::{LineReader, Sink, Source};
 use std::alloc::Global;
 use std::sync::Wait;
 use std::thread::Threads;
-use worker_gate::{Gate, RoundEnd};
+use worker_gate::Gate;
 
 /// What came of a turn.
 #[derive(Drop)]

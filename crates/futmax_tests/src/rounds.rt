@@ -9,6 +9,7 @@ use crate::runs::source_of;
 use answer_rows::questions;
 use branch_pool::{Answer, Pool};
 use league_core::{OutOfMemory, Sheet};
+use plain_rounds::RoundEnd;
 use port_core::{LineReader, MemSource};
 use sample_leagues::sample_of;
 use std::alloc::Global;
@@ -18,7 +19,7 @@ use std::sync::atomic::AtomicU64;
 use std::test::Fail;
 use std::thread::{Threads, join};
 use std::time::Clock;
-use worker_gate::{OpenGate, RoundEnd, run_round};
+use worker_gate::{OpenGate, run_round};
 
 /// Sixteen clubs before an open round, and two matches between the first two.
 pub const SIXTEEN: &[u8] = b"league,Sixteen,20\nclub,K01,1\nclub,K02,2\nclub,K03,3\nclub,K04,4\n\

@@ -16,9 +16,9 @@ use Rattle.answer_rows.specs.Parts.{IsMadeOf, club_name}
 use Rattle.answer_rows.specs.Rows.{verdict_row}
 use Rattle.answer_rows.specs.inside.ItemRanges.{lines_shown}
 use Rattle.answer_rows.specs.inside.Verdicts.{item_text, text_of_items}
-use Rattle.verdict_run.specs.inside.SeasonAnswers.{AnswerItem, IsKnownItem}
-use Rattle.verdict_run.proofs.AnswerLemmas.{season_answered}
-use Rattle.verdict_run.proofs.AnswerLemmas.{item_without}
+use Rattle.answer_laws.specs.inside.SeasonAnswers.{AnswerItem, IsKnownItem}
+use Rattle.answer_laws.proofs.AnswerLemmas.{season_answered}
+use Rattle.answer_laws.proofs.AnswerLemmas.{item_without}
 use Rattle.pool_save.specs.SavedAnswers.{IsItemText}
 use Rattle.pool_save.specs.inside.SavedPools.{IsUnspentVerdict}
 use Rattle.pool_save.proofs.SpentLineLemmas.{known_item_unspent, shown_lines_unspent}

@@ -10,7 +10,7 @@ use Rattle.league_core.specs.game.Results.{Results, are_results}
 use Rattle.league_core.specs.game.Seasons.{IsLeague}
 use Rattle.league_core.specs.game.Questions.{IsQuestionOf, full_question}
 use Rattle.league_core.specs.search.PointRanges.{most_points_of}
-use Rattle.verdict_run.proofs.DecidedLemmas.{question_decided}
+use Rattle.answer_laws.proofs.DecidedLemmas.{question_decided}
 use Rattle.answer_rows.proofs.PartLemmas.{refutation_is_true}
 use Rattle.qual_scores.specs.Scores.{IsLeastOf, IsPossibleScore, HasNoPossibleScore}
 use Rattle.qual_scores.specs.Scores.{CanBeInsideWith, IsInsideFrom, IsGuaranteedScore}

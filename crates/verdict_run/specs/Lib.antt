@@ -1,4 +1,2 @@
--- Reading order: the league that comes from a number, and what is counted in it.
-pub mod Samples
-pub mod SampleCounts
+-- No promise of the program rests on these words.
 pub mod inside

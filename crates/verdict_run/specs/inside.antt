@@ -7,8 +7,3 @@ pub mod Parts
 pub mod Kept
 pub mod SeasonReports
 pub mod WorkLaws
-pub mod SamplePools
--- What holds of questions, answers and tables, whatever the program does.
-pub mod Completeness
-pub mod SeasonAnswers
-pub mod TableLaws

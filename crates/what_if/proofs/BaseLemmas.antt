@@ -23,7 +23,7 @@ use Rattle.league_core.specs.search.Proposals.{proposed_finish}
 use Rattle.league_core.proofs.OptionLemmas.{has_score-options_of}
 use Rattle.league_core.proofs.ProposalLemmas.{proposed_in_box}
 use Rattle.cert_text.proofs.TreeRangeLemmas.{is_rival_in_range, are_rivals_in_range}
-use Rattle.verdict_run.proofs.BoxPrefixLemmas.{box_prefix}
+use Rattle.answer_laws.proofs.BoxPrefixLemmas.{box_prefix}
 use Rattle.what_if.specs.declared.outcome.Outcome.{Outcome}
 use Rattle.what_if.specs.declared.outcome.Outcome.TheVariants as outcome
 use Rattle.what_if.specs.Bases.{base_of, is_on_a_score, is_base_of}

@@ -19,7 +19,7 @@ use Rattle.answer_rows.specs.declared.word.Word.TheVariants.{Clinched, Lost, Pos
 use Rattle.answer_rows.specs.Items.{AnswerRow, answer_rows}
 use Rattle.answer_rows.specs.Parts.{IsMadeOf, club_name}
 use Rattle.answer_rows.specs.Rows.{verdict_row}
-use Rattle.verdict_run.proofs.DecidedLemmas.{zone_is_decided}
+use Rattle.answer_laws.proofs.DecidedLemmas.{zone_is_decided}
 use Rattle.answer_rows.proofs.RowLemmas.{IsRowOf, rows_asked}
 use Rattle.what_if.specs.declared.outcome.Outcome.{Outcome}
 use Rattle.what_if.specs.declared.outcome.Outcome.TheVariants.{Home, Draw, Away}

@@ -2,14 +2,14 @@
 
 ghost use Rattle.std.specs.Prelude.{◌≡◌, true};
 ghost use Rattle.result_log.specs.inside.Rounds.{live_entry};
-ghost use Rattle.worker_gate.specs.inside.Feeding.{FeedsRound, IsSeasonReported};
+ghost use Rattle.plain_rounds.specs.inside.Feeding.{FeedsRound, IsSeasonReported};
 ghost use Rattle.worker_gate.specs.inside.Workers.{IsCrewFor};
 
 use crate::crew::Crew;
 use crate::feeder_state::FeederState;
 use crate::idle_source::await_next;
-use crate::round::RoundEnd;
 use league_core::OutOfMemory;
+use plain_rounds::RoundEnd;
 use pool_lock::Job;
 use port_core::{LineReader, Source};
 use result_log::Entry;

@@ -4,7 +4,7 @@ ghost use Rattle.std.specs.Prelude.{◌≡◌, ◌++◌, ◌∷◌, [], ◌<◌,
 ghost use Rattle.league_core.specs.game.Limits.{most_events};
 ghost use Rattle.league_core.specs.game.Seasons.{IsEventOf};
 ghost use Rattle.branch_pool.specs.inside.States.{out_count};
-ghost use Rattle.worker_gate.specs.inside.Feeding.{IsSeasonReported};
+ghost use Rattle.plain_rounds.specs.inside.Feeding.{IsSeasonReported};
 
 use branch_pool::Pool;
 use league_core::{Event, OutOfMemory, Season};

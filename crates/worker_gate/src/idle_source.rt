@@ -3,7 +3,7 @@
 ghost use Rattle.std.specs.Prelude.{◌≡◌, IfOk, false};
 ghost use Rattle.result_log.specs.Records.{IsEntryAt};
 ghost use Rattle.result_log.specs.inside.Rounds.{live_entry};
-ghost use Rattle.worker_gate.specs.inside.Feeding.{IsSeasonReported, ReadsNext};
+ghost use Rattle.plain_rounds.specs.inside.Feeding.{IsSeasonReported, ReadsNext};
 ghost use Rattle.worker_gate.specs.inside.Workers.{IsCrewFor};
 
 use crate::crew::Crew;

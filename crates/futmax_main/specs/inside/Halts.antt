@@ -2,8 +2,8 @@
 use Rattle.std.specs.Prelude.{◌≡◌, ℕ, List, Option, Some, None, IfSome, Result, Ok, Err}
 use Rattle.result_log.specs.declared.fault.FeedStop.{FeedStop}
 use Rattle.branch_pool.specs.inside.States.{PoolView}
-use Rattle.worker_gate.specs.declared.round.RoundEnd.{RoundEnd}
-use Rattle.worker_gate.specs.declared.round.RoundEnd.TheVariants as round_end
+use Rattle.plain_rounds.specs.declared.round.RoundEnd.{RoundEnd}
+use Rattle.plain_rounds.specs.declared.round.RoundEnd.TheVariants as round_end
 use Rattle.what_if.specs.declared.step.Step.{Step}
 use Rattle.what_if.specs.declared.step.Step.TheVariants as step
 use Rattle.what_if.specs.inside.StepCalls.{IsUnplayedFixture}

@@ -4,10 +4,10 @@ use Rattle.fixture_sheet.specs.LastReads.{ReadsOnWay}
 use Rattle.result_log.specs.inside.LastReads.{GivesEvents, StopsAtClose}
 use Rattle.result_log.specs.inside.Rounds.{EndsRound, Spot}
 use Rattle.branch_pool.specs.inside.States.{PoolView}
-use Rattle.worker_gate.specs.declared.round.Round.{Round}
-use Rattle.worker_gate.specs.declared.round.RoundEnd.{RoundEnd}
-use Rattle.worker_gate.specs.inside.Reports.{ReportsTo}
-use Rattle.worker_gate.specs.inside.Rounds.{close_of}
+use Rattle.plain_rounds.specs.declared.round.Round.{Round}
+use Rattle.plain_rounds.specs.declared.round.RoundEnd.{RoundEnd}
+use Rattle.plain_rounds.specs.inside.Reports.{ReportsTo}
+use Rattle.plain_rounds.specs.inside.Rounds.{close_of}
 use Rattle.command_words.specs.declared.command.Mode.{Mode}
 use Rattle.command_words.specs.declared.command.Mode.TheVariants.{Save, Resume}
 use Rattle.futmax_main.specs.declared.halting.Halt.{Halt}

@@ -11,8 +11,8 @@ use Rattle.port_core.specs.Ports.{Rose}
 use Rattle.port_core.specs.Contents.{Position, input_limit}
 use Rattle.league_core.specs.search.Trees.{Tree}
 use Rattle.branch_pool.specs.inside.States.{PoolView, new_seat, out_count}
-use Rattle.worker_gate.specs.declared.round.RoundEnd.{RoundEnd}
-use Rattle.worker_gate.specs.declared.round.RoundEnd.TheVariants as round_end
+use Rattle.plain_rounds.specs.declared.round.RoundEnd.{RoundEnd}
+use Rattle.plain_rounds.specs.declared.round.RoundEnd.TheVariants as round_end
 use Rattle.answer_rows.specs.AskedQuestions.{questions_of}
 use Rattle.verdict_run.specs.inside.Working.{AreSettled}
 use Rattle.answer_rows.specs.declared.output.OutputStop.{OutputStop}

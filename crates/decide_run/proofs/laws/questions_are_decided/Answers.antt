@@ -1,6 +1,6 @@
 use Rattle.std.proofs.Common.{inl, inr, refl}
 use Rattle.cert_text.specs.TreeLines.{plain_lines}
-use Rattle.verdict_run.proofs.DecidedLemmas.{question_decided}
+use Rattle.answer_laws.proofs.DecidedLemmas.{question_decided}
 use Rattle.wide_lines.proofs.WideTreeLemmas.{refutation_is_wide}
 use Rattle.decide_run.proofs.laws.questions_are_decided.Goals as goal
 

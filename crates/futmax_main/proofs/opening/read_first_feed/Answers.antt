@@ -6,7 +6,7 @@ use Rattle.fixture_sheet.specs.LastReads.{ReadsOnWay}
 use Rattle.result_log.specs.declared.entry.Entry.TheVariants.{Ask, Proofs, End}
 use Rattle.result_log.specs.inside.LastReads.{GivesEvents, StopsAtClose}
 use Rattle.result_log.specs.inside.Rounds.{EndsRound, spot_of}
-use Rattle.worker_gate.proofs.FeedingLemmas.{as-rounds}
+use Rattle.plain_rounds.proofs.FeedingLemmas.{as-rounds}
 use Rattle.command_words.specs.declared.command.Mode.TheVariants.{Resume}
 use Rattle.futmax_main.specs.Courses.{course_from, course_from_saved, first_origin}
 use Rattle.pool_save.specs.SavedReadings.{nothing_saved}

@@ -3,8 +3,8 @@ use Rattle.std.proofs.Common.{sym, ◌∙◌, ◌++◌, ◌∷◌, [], ◌≡◌
 use Rattle.league_core.specs.declared.season.Event.{Event}
 use Rattle.result_log.specs.declared.entry.Entry.TheVariants.{Ask, End}
 use Rattle.result_log.specs.inside.Rounds.{live_entry}
-use Rattle.worker_gate.specs.inside.Feeding.{HasComeOn, IsSeasonReported}
-use Rattle.worker_gate.proofs.FeedingLemmas.{come-further, come-nowhere, come-off, come-over}
+use Rattle.plain_rounds.specs.inside.Feeding.{HasComeOn, IsSeasonReported}
+use Rattle.plain_rounds.proofs.FeedingLemmas.{come-further, come-nowhere, come-off, come-over}
 use Rattle.worker_gate.proofs.feeder.feed_open.Goals as goal
 use Rattle.league_core.proofs.plain.Options.{ok-holds}
 

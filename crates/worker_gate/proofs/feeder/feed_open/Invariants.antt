@@ -1,7 +1,7 @@
 use Rattle.std.proofs.Common.{◌-◌}
 use Rattle.port_core.specs.Contents.{input_limit}
 use Rattle.result_log.specs.inside.Rounds.{live_entry}
-use Rattle.worker_gate.specs.inside.Feeding.{HasComeOn, IsSeasonReported}
+use Rattle.plain_rounds.specs.inside.Feeding.{HasComeOn, IsSeasonReported}
 use Rattle.worker_gate.proofs.feeder.feed_open.Given as goal
 
 -- the lines so far told the events that the front has more than before

@@ -1,7 +1,7 @@
 -- What the source round the source says, that source says.
 use Rattle.std.proofs.Common.{false}
 use Rattle.result_log.specs.Feeds.{entry_in}
-use Rattle.worker_gate.proofs.FeedingLemmas.{live-as, next-read, next-read-as, reported-of-sheet}
+use Rattle.plain_rounds.proofs.FeedingLemmas.{live-as, next-read, next-read-as, reported-of-sheet}
 use Rattle.result_log.proofs.LastReadLemmas.{entry-within}
 use Rattle.worker_gate.proofs.idle_source.next_as.Goals as goal
 

@@ -1,0 +1,2 @@
+-- No promise of the program rests on these words.
+pub mod inside

@@ -1,0 +1,3 @@
+-- The sample's rounds and scores, and its events.
+pub mod SampleLemmas
+pub mod HeardLemmas

@@ -1,0 +1,4 @@
+-- Reading order: the league that comes from a number, and what is counted in it.
+pub mod Samples
+pub mod SampleCounts
+pub mod inside
