@@ -1,0 +1,2 @@
+-- The laws of answers for cups.
+pub mod CupTruths
