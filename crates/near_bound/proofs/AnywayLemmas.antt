@@ -12,6 +12,7 @@ use Rattle.near_laws.specs.SureLeads.{decide_by, even_record}
 use Rattle.near_laws.specs.Groups.{groups_with}
 use Rattle.near_laws.proofs.LeadLemmas.{HasSize}
 use Rattle.near_bound.proofs.GroupWalkLemmas.{all_of_more}
+use Rattle.near_bound.proofs.OnceLemmas.{is_not}
 use Rattle.near_bound.proofs.LeadSumLemmas.{IsLow, low_itself, low_added, low_with_even}
 use Rattle.near_bound.proofs.LeadSumLemmas.{total_size, total_from_more, ahead_above, level_above}
 
@@ -29,7 +30,7 @@ pub each_group : (test : List ℕ → Bool) (is_held : ℕ → Bool) (clubs : Li
     → list_all test (groups_with is_held clubs) ≡ true
 each_group test is_held [] each = ap (λ b. b && true) (each [] tt)
 each_group test is_held (club ∷ clubs) each =
-    all_of_more test [] is_held club clubs
+    all_of_more test is_held club clubs
     ∙ and_from (is_held club || list_all test (groups_with is_held clubs))
     (list_all (λ group. test (club ∷ group)) (groups_with is_held clubs))
     (without (is_held club) refl
@@ -104,9 +105,6 @@ decide_above OverallFirst whole part more further first last is also =
     (ahead_above part further also)
     (and_follows (is_level_or_ahead_by part) (is_ahead_by last) (is_level_or_ahead_by further)
     (is_ahead_by last) (level_above part further also) (λ h. h))))
-
-abbrev pub is_not : ℕ → ℕ → Bool
-is_not rival other = not (other == rival)
 
 -- leads of third clubs with what they are capped at
 module _ (lead cap : ℕ → Lead) (is_held : ℕ → Bool) (rival : ℕ) where

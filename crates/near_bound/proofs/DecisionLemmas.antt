@@ -38,12 +38,10 @@ total_each first lead other (club ∷ others) each =
     (λ x has. each x (ap (λ b. (club == x) || b) has ∙ or-true (club == x))) i)
 
 -- if the first lead is infinite the others do not matter
-all_none : (lead other : ℕ → Lead) (chosen sure loose : List ℕ)
-    → total_lead (total_lead (total_lead None lead chosen) lead sure) other loose ≡ None
-all_none lead other chosen sure loose =
-    ap (λ (l : Lead). total_lead (total_lead l lead sure) other loose) (total_none lead chosen)
-    ∙ ap (λ (l : Lead). total_lead l other loose) (total_none lead sure)
-    ∙ total_none other loose
+all_none : (lead other : ℕ → Lead) (sure loose : List ℕ)
+    → total_lead (total_lead None lead sure) other loose ≡ None
+all_none lead other sure loose =
+    ap (λ (l : Lead). total_lead l other loose) (total_none lead sure) ∙ total_none other loose
 
 -- the leads of a zone that were kept
 module _ (tie : Tie) (zone : List Literal) (able : ClubSet) (front back : ℕ) (leads : Leads)
@@ -68,50 +66,40 @@ module _ (tie : Tie) (zone : List Literal) (able : ClubSet) (front back : ℕ) (
       ap (λ (l : Lead). Some (at_most even_record l)) (against_is others among some club has)
 
   -- one list of clubs after the other
-  three_same : (lead other : ℕ → Lead) (chosen sure loose : List ℕ)
-      → (IsSome leads.pair → (club : ℕ) → has_club chosen club ≡ true → lead club ≡ other club)
+  both_same : (lead other : ℕ → Lead) (sure loose : List ℕ)
       → (IsSome leads.pair → (club : ℕ) → has_club sure club ≡ true → lead club ≡ other club)
       → (IsSome leads.pair → (club : ℕ) → has_club loose club ≡ true
       → third_lead true leads club ≡ cap_in club)
-      → total_lead (total_lead (total_lead (lead_by record_parts leads.pair) lead chosen) lead
-      sure) (third_lead true leads) loose
-      ≡ total_lead (total_lead (total_lead pair_in other chosen) other sure) cap_in loose
-  three_same lead other chosen sure loose one two three =
-      by_pair leads.pair one two three
-      ∙ ap (λ (l : Lead). total_lead (total_lead (total_lead l other chosen) other sure) cap_in
-      loose) are.pair
+      → total_lead (total_lead (lead_by record_parts leads.pair) lead sure) (third_lead true leads)
+      loose
+      ≡ total_lead (total_lead pair_in other sure) cap_in loose
+  both_same lead other sure loose one two =
+      by_pair leads.pair one two
+      ∙ ap (λ (l : Lead). total_lead (total_lead l other sure) cap_in loose) are.pair
     where
       by_pair : (pair : Option Margin)
-          → (IsSome pair → (club : ℕ) → has_club chosen club ≡ true → lead club ≡ other club)
           → (IsSome pair → (club : ℕ) → has_club sure club ≡ true → lead club ≡ other club)
           → (IsSome pair → (club : ℕ) → has_club loose club ≡ true
           → third_lead true leads club ≡ cap_in club)
-          → total_lead (total_lead (total_lead (lead_by record_parts pair) lead chosen) lead
-          sure) (third_lead true leads) loose
-          ≡ total_lead (total_lead (total_lead (lead_by record_parts pair) other chosen) other
-          sure) cap_in loose
-      by_pair None one two three =
-          all_none lead (third_lead true leads) chosen sure loose
-          ∙ sym (all_none other cap_in chosen sure loose)
-      by_pair (Some margin) one two three =
-          let first = total_each (Some (record_parts margin)) lead other chosen (one refl) in
-          let second = total_each (total_lead (Some (record_parts margin)) other chosen) lead other
-          sure (two refl) in
-          ap (λ (l : Lead). total_lead (total_lead l lead sure) (third_lead true leads) loose) first
-          ∙ ap (λ (l : Lead). total_lead l (third_lead true leads) loose) second
-          ∙ total_each
-          (total_lead (total_lead (Some (record_parts margin)) other chosen) other sure)
-          (third_lead true leads) cap_in loose (three refl)
+          → total_lead (total_lead (lead_by record_parts pair) lead sure) (third_lead true leads)
+          loose
+          ≡ total_lead (total_lead (lead_by record_parts pair) other sure) cap_in loose
+      by_pair None one two =
+          all_none lead (third_lead true leads) sure loose ∙ sym (all_none other cap_in sure loose)
+      by_pair (Some margin) one two =
+          ap (λ (l : Lead). total_lead l (third_lead true leads) loose)
+          (total_each (Some (record_parts margin)) lead other sure (one refl))
+          ∙ total_each (total_lead (Some (record_parts margin)) other sure)
+          (third_lead true leads) cap_in loose (two refl)
 
-  pub decide_is : (chosen sure loose : List ℕ) → AreLeadsOf tie front back leads
-      → AreOthers able front back chosen → AreOthers able front back sure
-      → AreOthers able front back loose
-      → leads_decide_anyway leads chosen sure loose
-      ≡ leads_anyway tie.left.now.sheet.now (fits_of tie zone) front back chosen sure loose
-  decide_is chosen sure loose of_tie with_chosen with_sure with_loose =
-      let whole = three_same (third_lead false leads) lead_in chosen sure loose
-      (against_is chosen with_chosen) (against_is sure with_sure) (capped_is loose with_loose) in
-      let part = three_same (third_lead true leads) cap_in chosen sure loose
-      (capped_is chosen with_chosen) (capped_is sure with_sure) (capped_is loose with_loose) in
+  pub decide_is : (sure loose : List ℕ) → AreLeadsOf tie front back leads
+      → AreOthers able front back sure → AreOthers able front back loose
+      → leads_decide_anyway leads sure loose
+      ≡ leads_anyway tie.left.now.sheet.now (fits_of tie zone) front back sure loose
+  decide_is sure loose of_tie with_sure with_loose =
+      let whole = both_same (third_lead false leads) lead_in sure loose (against_is sure with_sure)
+      (capped_is loose with_loose) in
+      let part = both_same (third_lead true leads) cap_in sure loose (capped_is sure with_sure)
+      (capped_is loose with_loose) in
       (λ i. decide_by (of_tie.order i) (whole i) (part i) (are.first i)
       (with_part (of_tie.rank i) (are.overall i)))

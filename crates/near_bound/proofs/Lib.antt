@@ -26,12 +26,14 @@ pub mod EachFitLemmas
 pub mod PlayedLeadLemmas
 pub mod StartLemmas
 pub mod GroupSetLemmas
+pub mod OnceLemmas
 pub mod LeadSumLemmas
 pub mod AnywayLemmas
 pub mod WrongAnywayLemmas
 pub mod GroupListLemmas
 pub mod DecisionLemmas
 pub mod GroupWalkLemmas
+pub mod MoreHeldLemmas
 pub mod LeadTableLemmas
 pub mod AbleRivalLemmas
 pub mod LevelLemmas

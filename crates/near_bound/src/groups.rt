@@ -1,15 +1,15 @@
 //! Whether each group of clubs that may form on the points has a club on the wrong side.
 
-ghost use Rattle.std.specs.Prelude.{◌≡◌, ◌++◌, true, ℕ, List, []};
-ghost use Rattle.std.specs.List.{list_all, list_any};
+ghost use Rattle.std.specs.Prelude.{◌≡◌, ◌||◌, ◌==◌, true, ℕ, List, Some};
+ghost use Rattle.std.specs.List.{list_all};
 ghost use Rattle.league_core.specs.declared.zone.Literal.{Literal};
 ghost use Rattle.league_core.specs.game.ClubSets.{clubs_in};
 ghost use Rattle.league_core.specs.game.Sums.{has_club};
 ghost use Rattle.near_laws.specs.Groups.{groups_with};
 ghost use Rattle.near_bound.specs.inside.Ties.{IsTie};
 ghost use Rattle.near_bound.specs.inside.GroupsLeft.{AreWrongs, IsGroups, IsLeadTable};
-ghost use Rattle.near_bound.specs.inside.GroupsLeft.{AreRivals, AreGroupsIn, AreAmong, MayGoOn};
-ghost use Rattle.near_bound.specs.inside.GroupsLeft.{wrong_anyway, is_in_each, group_is_wrong};
+ghost use Rattle.near_bound.specs.inside.GroupsLeft.{AreRivals, AreGroupsIn, AreAmong, MayForm};
+ghost use Rattle.near_bound.specs.inside.GroupsLeft.{wrong_anyway, group_is_wrong, FindsWrong};
 
 use crate::lead_table::LeadTable;
 use crate::tie::Tie;
@@ -59,93 +59,92 @@ impl<'a> Groups<'a> {
             (groups_with (has_club (clubs_in self.now.held)) (clubs_in self.now.able)) }
         ensures kept { IsLeadTable self.now table.new }
     {
-        self.are_wrong_with(table, ClubSet::empty(), self.able)
-    }
-
-    // Each group with these, and any of those that are left, has one. Where a rival that is in each
-    // of them is wrong whoever joins, they are not looked at one by one. A group comes before those
-    // that have the same clubs and others.
-    fn are_wrong_with(&self, table: &mut LeadTable, chosen: ClubSet, left: ClubSet) -> bool
-        requires groups { IsGroups self.now }
-        requires kept { IsLeadTable self.now table.old }
-        requires go_on { MayGoOn self.now chosen left }
-        ensures value { (zone : List Literal) → AreGroupsIn self.now zone → result
-            ≡ list_all (λ group. group_is_wrong self.now zone (clubs_in chosen ++ group))
-            (groups_with (has_club (clubs_in self.now.held)) (clubs_in left)) }
-        ensures kept { IsLeadTable self.now table.new }
-    {
-        if self.has_wrong(table, chosen, left) {
+        if self.is_wrong_by(table, self.first, self.able) {
             return true;
         }
-        if left.is_empty() {
-            return false;
+        match self.wrong_among(table, self.held) {
+            None => false,
+            Some(wrong) => self.are_wrong_among(table, wrong, self.able),
         }
-        let club = left.first_club();
-        let rest = left.without(ClubSet::single(club));
-        let more = chosen.with_if(true, club);
-        if self.held.has(club) {
-            return self.are_wrong_with(table, more, rest);
-        }
-        self.are_wrong_with(table, chosen, rest) && self.are_wrong_with(table, more, rest)
     }
 
-    // A rival that is in each such group is surely wrong in all of them; the first one is looked at
-    // first.
-    fn has_wrong(&self, table: &mut LeadTable, chosen: ClubSet, left: ClubSet) -> bool
+    // Each group of these clubs has one, as the rival is in that of the held ones alone. If it is
+    // so whoever joins, they are not looked at one by one. The club that takes most from its lead
+    // joins first, since the groups with it are the likeliest to have no rival that is wrong.
+    fn are_wrong_among(&self, table: &mut LeadTable, wrong: u8, clubs: ClubSet) -> bool
         requires groups { IsGroups self.now }
         requires kept { IsLeadTable self.now table.old }
-        requires go_on { MayGoOn self.now chosen left }
-        ensures anyway { (zone : List Literal) → AreGroupsIn self.now zone → result ≡ true
-            → list_all (λ group. group_is_wrong self.now zone (clubs_in chosen ++ group))
-            (groups_with (has_club (clubs_in self.now.held)) (clubs_in left)) ≡ true }
-        ensures alone { (zone : List Literal) → AreGroupsIn self.now zone → clubs_in left ≡ []
-            → result ≡ group_is_wrong self.now zone (clubs_in chosen) }
+        requires left { MayForm self.now clubs }
+        requires wrong { FindsWrong self.now (clubs_in self.now.held) (Some wrong) }
+        ensures value { (zone : List Literal) → AreGroupsIn self.now zone → result
+            ≡ list_all (group_is_wrong self.now zone)
+            (groups_with (has_club (clubs_in self.now.held)) (clubs_in clubs)) }
         ensures kept { IsLeadTable self.now table.new }
     {
-        let sure = chosen.union(left.intersection(self.held));
-        let others = sure.without(ClubSet::single(self.first));
-        self.is_wrong_by(table, self.first, chosen, left)
-            || self.has_other_wrong(table, others, chosen, left)
+        let loose = clubs.without(self.held);
+        if loose.is_empty() {
+            return true;
+        }
+        if self.is_wrong_by(table, wrong, clubs) {
+            return true;
+        }
+        let club = table.of(wrong).worst_of(loose);
+        let more = self.with_held(club);
+        match more.wrong_among(table, more.held) {
+            None => false,
+            Some(other) => {
+                more.are_wrong_among(table, other, clubs)
+                    && self.are_wrong_among(table, wrong, clubs.without(ClubSet::single(club)))
+            }
+        }
     }
 
-    // One of these rivals is.
-    fn has_other_wrong(
-        &self,
-        table: &mut LeadTable,
-        rivals: ClubSet,
-        chosen: ClubSet,
-        left: ClubSet,
-    ) -> bool
+    // The groups with one club more that is held.
+    fn with_held(&self, club: u8) -> Groups<'a>
+        requires groups { IsGroups self.now }
+        requires able { has_club (clubs_in self.now.able) club ≡ true }
+        ensures is { IsGroups result }
+        ensures tie { result.tie.now ≡ self.now.tie.now }
+        ensures club { result.club ≡ self.now.club }
+        ensures able { result.able ≡ self.now.able }
+        ensures held { (other : ℕ) → has_club (clubs_in result.held) other
+            ≡ (has_club (clubs_in self.now.held) other || (club == other)) }
+    {
+        Groups {
+            held: self.held.with_if(true, club),
+            ..*self
+        }
+    }
+
+    // One of these held rivals that is wrong in the group of the held ones alone.
+    fn wrong_among(&self, table: &mut LeadTable, rivals: ClubSet) -> Option<u8>
         requires groups { IsGroups self.now }
         requires kept { IsLeadTable self.now table.old }
-        requires go_on { MayGoOn self.now chosen left }
-        requires rivals { (rival : ℕ) → has_club (clubs_in rivals) rival ≡ true
-            → is_in_each self.now chosen left rival ≡ true }
-        ensures value { (zone : List Literal) → AreGroupsIn self.now zone → result
-            ≡ list_any (wrong_anyway self.now zone (clubs_in chosen) (clubs_in left))
-            (clubs_in rivals) }
+        requires rivals { AreAmong rivals self.now.held }
+        ensures finds { FindsWrong self.now (clubs_in rivals) result }
         ensures kept { IsLeadTable self.now table.new }
     {
         if rivals.is_empty() {
-            return false;
+            return None;
         }
         let rival = rivals.first_club();
-        let rest = rivals.without(ClubSet::single(rival));
-        self.is_wrong_by(table, rival, chosen, left)
-            || self.has_other_wrong(table, rest, chosen, left)
+        if self.is_wrong_by(table, rival, self.held) {
+            return Some(rival);
+        }
+        self.wrong_among(table, rivals.without(ClubSet::single(rival)))
     }
 
-    fn is_wrong_by(&self, table: &mut LeadTable, rival: u8, chosen: ClubSet, left: ClubSet) -> bool
+    fn is_wrong_by(&self, table: &mut LeadTable, rival: u8, clubs: ClubSet) -> bool
         requires groups { IsGroups self.now }
         requires kept { IsLeadTable self.now table.old }
-        requires go_on { MayGoOn self.now chosen left }
-        requires rival { is_in_each self.now chosen left rival ≡ true }
+        requires left { MayForm self.now clubs }
+        requires rival { has_club (clubs_in self.now.held) rival ≡ true }
         ensures value { (zone : List Literal) → AreGroupsIn self.now zone → result
-            ≡ wrong_anyway self.now zone (clubs_in chosen) (clubs_in left) rival }
+            ≡ wrong_anyway self.now zone (clubs_in clubs) rival }
         ensures kept { IsLeadTable self.now table.new }
     {
         self.take(table, rival);
-        self.is_wrong(table.of(rival), rival, chosen, left)
+        self.is_wrong(table.of(rival), rival, clubs)
     }
 
     // The rival's leads, if they are not there yet.
@@ -161,18 +160,16 @@ impl<'a> Groups<'a> {
         }
     }
 
-    fn is_wrong(&self, wrongs: &Wrongs, rival: u8, chosen: ClubSet, left: ClubSet) -> bool
+    fn is_wrong(&self, wrongs: &Wrongs, rival: u8, clubs: ClubSet) -> bool
         requires groups { IsGroups self.now }
-        requires go_on { MayGoOn self.now chosen left }
-        requires rival { is_in_each self.now chosen left rival ≡ true }
+        requires left { MayForm self.now clubs }
+        requires rival { has_club (clubs_in self.now.held) rival ≡ true }
         requires wrongs { AreWrongs self.now.tie.now self.now.able self.now.club rival wrongs.now }
         ensures { (zone : List Literal) → AreGroupsIn self.now zone → result
-            ≡ wrong_anyway self.now zone (clubs_in chosen) (clubs_in left) rival }
+            ≡ wrong_anyway self.now zone (clubs_in clubs) rival }
     {
-        let one = ClubSet::single(rival);
-        let others = chosen.without(one);
-        let sure = left.intersection(self.held).without(one);
-        let loose = left.without(self.held);
-        decide(&wrongs.behind, others, sure, loose) || decide(&wrongs.ahead, others, sure, loose)
+        let sure = self.held.without(ClubSet::single(rival));
+        let loose = clubs.without(self.held);
+        decide(&wrongs.behind, sure, loose) || decide(&wrongs.ahead, sure, loose)
     }
 }

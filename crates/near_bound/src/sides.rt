@@ -1,6 +1,6 @@
 //! Two clubs in a match.
 
-ghost use Rattle.std.specs.Prelude.{◌≡◌, ◌&&◌, ◌||◌, ◌∷◌, [], if◌then◌else◌, not};
+ghost use Rattle.std.specs.Prelude.{◌≡◌, ◌&&◌, ◌||◌, ◌∷◌, [], if◌then◌else◌};
 ghost use Rattle.league_core.specs.game.Sums.{has_club};
 
 use league_core::Fixture;
@@ -27,12 +27,6 @@ impl Sides {
         ensures { result ≡ (self.home && self.away) }
     {
         self.home && self.away
-    }
-
-    pub fn are_one(self) -> bool
-        ensures { result ≡ (if self.home then not self.away else self.away) }
-    {
-        self.home != self.away
     }
 
     /// The away side if the home side is one of the two, and else the home side.

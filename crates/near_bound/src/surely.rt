@@ -19,56 +19,51 @@ use league_core::{ClubSet, Order};
 use std::cmp::Ordering;
 
 impl Leads {
-    /// In each group with the chosen clubs, with those that surely join and with any of the loose
-    /// ones, the front club is surely ahead of the back one.
-    pub fn decide(&self, chosen: ClubSet, sure: ClubSet, loose: ClubSet) -> bool
+    /// In each group with the sure clubs and any of the loose ones, the front club is surely ahead
+    /// of the back one.
+    pub fn decide(&self, sure: ClubSet, loose: ClubSet) -> bool
         requires { AreLeadsNear self.now }
-        ensures { result ≡ leads_decide_anyway self.now (clubs_in chosen) (clubs_in sure)
-            (clubs_in loose) }
+        ensures { result ≡ leads_decide_anyway self.now (clubs_in sure) (clubs_in loose) }
     {
         match self.order {
             Order::HeadFirst => {
-                is_above(self.total(chosen, sure, loose, false))
-                    || self.decide_last(chosen, sure, loose)
+                is_above(self.total(sure, loose, false)) || self.decide_last(sure, loose)
             }
             Order::OverallFirst => {
                 self.is_first_above()
-                    || (self.is_first_from_zero() && self.decide_part(chosen, sure, loose))
+                    || (self.is_first_from_zero() && self.decide_part(sure, loose))
             }
         }
     }
 
     // By the head-to-head of any part of the group, or by what comes last.
-    fn decide_part(&self, chosen: ClubSet, sure: ClubSet, loose: ClubSet) -> bool
+    fn decide_part(&self, sure: ClubSet, loose: ClubSet) -> bool
         requires { AreLeadsNear self.now }
-        ensures { result ≡ (is_ahead_by (total_with true self.now (clubs_in chosen) (clubs_in sure)
-            (clubs_in loose)) || (is_level_or_ahead_by (total_with true self.now (clubs_in chosen)
-            (clubs_in sure) (clubs_in loose)) && is_ahead_by
-            (with_part self.now.rank (lead_by overall_parts self.now.overall)))) }
+        ensures { result ≡ (is_ahead_by (total_with true self.now (clubs_in sure) (clubs_in loose))
+            || (is_level_or_ahead_by (total_with true self.now (clubs_in sure) (clubs_in loose))
+            && is_ahead_by (with_part self.now.rank (lead_by overall_parts self.now.overall)))) }
     {
-        is_above(self.total(chosen, sure, loose, true)) || self.decide_last(chosen, sure, loose)
+        is_above(self.total(sure, loose, true)) || self.decide_last(sure, loose)
     }
 
     // Any part of the group leaves the two level at the least, and what comes last decides.
-    fn decide_last(&self, chosen: ClubSet, sure: ClubSet, loose: ClubSet) -> bool
+    fn decide_last(&self, sure: ClubSet, loose: ClubSet) -> bool
         requires { AreLeadsNear self.now }
         ensures { result
-            ≡ (is_level_or_ahead_by (total_with true self.now (clubs_in chosen) (clubs_in sure)
-            (clubs_in loose)) && is_ahead_by
-            (with_part self.now.rank (lead_by overall_parts self.now.overall))) }
+            ≡ (is_level_or_ahead_by (total_with true self.now (clubs_in sure) (clubs_in loose))
+            && is_ahead_by (with_part self.now.rank (lead_by overall_parts self.now.overall))) }
     {
-        self.is_tail_above() && is_from_zero(self.total(chosen, sure, loose, true))
+        self.is_tail_above() && is_from_zero(self.total(sure, loose, true))
     }
 
     // The lead of the two alone with those by third clubs, of which none adds to it if they are
     // capped; the loose ones never do.
-    fn total(&self, chosen: ClubSet, sure: ClubSet, loose: ClubSet, capped: bool) -> Option<Margin>
+    fn total(&self, sure: ClubSet, loose: ClubSet, capped: bool) -> Option<Margin>
         requires { AreLeadsNear self.now }
-        ensures { lead_by record_parts result ≡ total_with capped self.now (clubs_in chosen)
-            (clubs_in sure) (clubs_in loose) }
+        ensures { lead_by record_parts result
+            ≡ total_with capped self.now (clubs_in sure) (clubs_in loose) }
     {
-        let with_chosen = self.added_to(self.pair, chosen, capped);
-        let with_sure = self.added_to(with_chosen, sure, capped);
+        let with_sure = self.added_to(self.pair, sure, capped);
         self.added_to(with_sure, loose, true)
     }
 

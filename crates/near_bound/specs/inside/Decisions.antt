@@ -20,19 +20,16 @@ abbrev pub total_by : Bool → Leads → List ℕ → Lead
 total_by capped leads others =
     total_lead (lead_by record_parts leads.pair) (third_lead capped leads) others
 
--- of the two alone with those by the chosen clubs and by those that surely join; the loose ones add
--- nothing
-abbrev pub total_with : Bool → Leads → List ℕ → List ℕ → List ℕ → Lead
-total_with capped leads chosen sure loose =
-    total_lead (total_lead (total_by capped leads chosen) (third_lead capped leads) sure)
-    (third_lead true leads) loose
+-- of the two alone with those by the clubs that are sure; the loose ones add nothing
+abbrev pub total_with : Bool → Leads → List ℕ → List ℕ → Lead
+total_with capped leads sure loose =
+    total_lead (total_by capped leads sure) (third_lead true leads) loose
 
--- the leads decide in each group with the chosen clubs, with those that surely join and with any of
--- the loose ones
-abbrev pub leads_decide_anyway : Leads → List ℕ → List ℕ → List ℕ → Bool
-leads_decide_anyway leads chosen sure loose =
-    decide_by leads.order (total_with false leads chosen sure loose)
-    (total_with true leads chosen sure loose) (lead_by first_parts leads.overall)
+-- the leads decide in each group with the sure clubs and any of the loose ones
+abbrev pub leads_decide_anyway : Leads → List ℕ → List ℕ → Bool
+leads_decide_anyway leads sure loose =
+    decide_by leads.order (total_with false leads sure loose) (total_with true leads sure loose)
+    (lead_by first_parts leads.overall)
     (with_part leads.rank (lead_by overall_parts leads.overall))
 
 -- a lead by a third club that adds nothing
@@ -41,12 +38,9 @@ lead_capped sheet fits front back rival =
     Some (at_most even_record (lead_against sheet fits front back rival))
 
 -- of two clubs the one is surely ahead in each such group
-abbrev pub leads_anyway : Sheet → (List ℕ → List (List Score)) → ℕ → ℕ → List ℕ → List ℕ → List ℕ
-    → Bool
-leads_anyway sheet fits front back chosen sure loose =
-    let lead = lead_against sheet fits front back in
+abbrev pub leads_anyway : Sheet → (List ℕ → List (List Score)) → ℕ → ℕ → List ℕ → List ℕ → Bool
+leads_anyway sheet fits front back sure loose =
     let capped = lead_capped sheet fits front back in
-    decide_by sheet.order
-    (total_lead (total_lead (group_lead sheet fits front back chosen) lead sure) capped loose)
-    (total_lead (total_lead (any_group_lead sheet fits front back chosen) capped sure) capped loose)
+    decide_by sheet.order (total_lead (group_lead sheet fits front back sure) capped loose)
+    (total_lead (any_group_lead sheet fits front back sure) capped loose)
     (first_lead sheet fits front back) (tail_lead sheet fits front back)

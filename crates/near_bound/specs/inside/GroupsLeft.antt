@@ -93,36 +93,29 @@ wrong_in groups zone group rival =
 abbrev pub group_is_wrong : Groups → List Literal → List ℕ → Bool
 group_is_wrong groups zone group = list_any (wrong_in groups zone group) group
 
--- the rival is surely wrong in each group of these chosen clubs, of all held ones that are left and
--- of any others that are left
-abbrev pub wrong_anyway : Groups → List Literal → List ℕ → List ℕ → ℕ → Bool
-wrong_anyway groups zone chosen left rival =
+-- the held rival is surely wrong in each group of these clubs that has all held ones
+abbrev pub wrong_anyway : Groups → List Literal → List ℕ → ℕ → Bool
+wrong_anyway groups zone clubs rival =
     let sheet = groups.tie.now.left.now.sheet.now in
     let fits = fits_of groups.tie.now zone in
-    let is_other = (λ (other : ℕ). not (other == rival)) in
-    let others = filter is_other chosen in
-    let sure = filter is_other (filter (has_club (clubs_in groups.held)) left) in
-    let loose = filter (λ other. not (has_club (clubs_in groups.held) other)) left in
-    (marked_after zone rival && leads_anyway sheet fits rival groups.club others sure loose)
-    || (marked_before zone rival && leads_anyway sheet fits groups.club rival others sure loose)
+    let is_held = has_club (clubs_in groups.held) in
+    let sure = filter (λ (other : ℕ). not (other == rival)) (filter is_held clubs) in
+    let loose = filter (λ other. not (is_held other)) clubs in
+    (marked_after zone rival && leads_anyway sheet fits rival groups.club sure loose)
+    || (marked_before zone rival && leads_anyway sheet fits groups.club rival sure loose)
 
--- the rival is in each of these groups
-abbrev pub is_in_each : Groups → ClubSet → ClubSet → ℕ → Bool
-is_in_each groups chosen left rival =
-    has_club (clubs_in chosen) rival
-    || (has_club (clubs_in left) rival && has_club (clubs_in groups.held) rival)
+-- able rivals that are left for the groups, with all held ones
+pub record MayForm (groups : Groups) (clubs : ClubSet) : Type 0 where
+  pub clubs_able : AreAmong clubs groups.able
+  pub clubs_held : AreAmong groups.held clubs
 
--- the clubs that are chosen come before those that are left
-abbrev pub ComeBefore : ClubSet → ClubSet → Type 0
-ComeBefore chosen left =
-    (club later : ℕ) → has_club (clubs_in chosen) club ≡ true
-    → has_club (clubs_in left) later ≡ true → club < later
-
--- how a group may go on: with these chosen, and any of those that are left
-pub record MayGoOn (groups : Groups) (chosen left : ClubSet) : Type 0 where
-  pub chosen_in : AreAmong chosen groups.able
-  pub left_in : AreAmong left groups.able
-  pub before : ComeBefore chosen left
-  pub first_there : (has_club (clubs_in chosen) groups.first
-      || has_club (clubs_in left) groups.first) ≡ true
-  pub first_held : has_club (clubs_in groups.held) groups.first ≡ true
+-- a held rival among these that is surely wrong in the group of the held ones alone; if none is
+-- found, none is
+abbrev pub FindsWrong : Groups → List ℕ → Option ℕ → Type 0
+FindsWrong groups rivals None =
+    (zone : List Literal) → AreGroupsIn groups zone
+    → list_any (wrong_in groups zone (clubs_in groups.held)) rivals ≡ false
+FindsWrong groups rivals (Some rival) =
+    (has_club rivals rival ≡ true)
+    × ((zone : List Literal) → AreGroupsIn groups zone
+    → wrong_in groups zone (clubs_in groups.held) rival ≡ true)

@@ -1,12 +1,10 @@
--- The rivals that are pressed in the zone of a box, and the near reason by one of a set of rivals.
-use Rattle.std.specs.Prelude.{◌≡◌, ℕ, ◌<◌, Bool, true, ◌&&◌, ◌||◌, List, length}
+-- The rivals that are pressed in the zone of a box.
+use Rattle.std.specs.Prelude.{◌≡◌, ℕ, ◌<◌, Bool, true, ◌||◌, length}
 use Rattle.league_core.specs.declared.club_set.ClubSet.{ClubSet}
 use Rattle.league_core.specs.declared.question.Question.{Question}
-use Rattle.league_core.specs.declared.zone.Literal.{Literal}
 use Rattle.league_core.specs.game.ClubSets.{clubs_in}
 use Rattle.league_core.specs.game.Sums.{has_club}
-use Rattle.near_laws.specs.Near.{is_pressed_from_behind, is_pressed_from_ahead, has_near_reason}
-use Rattle.near_bound.specs.declared.zone_left.ZoneLeft.{ZoneLeft}
+use Rattle.near_laws.specs.Near.{is_pressed_from_behind, is_pressed_from_ahead}
 use Rattle.score_box.specs.inside.ZoneBoxViews.{ZoneBoxView}
 
 -- from behind the question's club or from ahead
@@ -19,9 +17,3 @@ is_pressed_in box question rival =
 abbrev pub AreClubsOfBox : ZoneBoxView → ClubSet → Type 0
 AreClubsOfBox box set =
     (club : ℕ) → has_club (clubs_in set) club ≡ true → club < length box.sheet.clubs
-
--- the rival is one of the set, and the near reason holds by it
-abbrev pub is_near_among : ZoneLeft → Question → ClubSet → List Literal → ℕ → Bool
-is_near_among left question rivals zone rival =
-    has_club (clubs_in rivals) rival
-    && has_near_reason left.sheet.now left.season.now question zone rival

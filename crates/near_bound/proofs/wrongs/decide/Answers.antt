@@ -8,18 +8,18 @@ use Rattle.near_bound.proofs.DecisionLemmas.{decide_is}
 use Rattle.near_bound.proofs.wrongs.decide.Goals as goal
 
 pub returns-in-None : goal.returns-in-None
-returns-in-None c = λ tie able front back marked zone are is fits one two three.
+returns-in-None c = λ tie able front back marked zone are is fits one two.
     ap (λ b. b && leads_anyway tie.left.now.sheet.now (fits_of tie zone) front back
-    (clubs_in c.args.chosen) (clubs_in c.args.sure) (clubs_in c.args.loose))
+    (clubs_in c.args.sure) (clubs_in c.args.loose))
     (sym (subst (λ (o : Option Leads). IsMarkedLead tie able front back marked o) c.in-None.is are))
 
 pub returns-in-Some : goal.returns-in-Some
-returns-in-Some c = λ tie able front back marked zone are is fits one two three.
+returns-in-Some c = λ tie able front back marked zone are is fits one two.
     let of = subst (λ (o : Option Leads). IsMarkedLead tie able front back marked o) c.in-Some.is
     are
     in
     c.decide.ensures
     ∙ decide_is tie zone able front back c.in-Some.leads (of.3 zone is fits)
-    (clubs_in c.args.chosen) (clubs_in c.args.sure) (clubs_in c.args.loose) of.2 one two three
+    (clubs_in c.args.sure) (clubs_in c.args.loose) of.2 one two
     ∙ ap (λ b. b && leads_anyway tie.left.now.sheet.now (fits_of tie zone) front back
-    (clubs_in c.args.chosen) (clubs_in c.args.sure) (clubs_in c.args.loose)) (sym of.0)
+    (clubs_in c.args.sure) (clubs_in c.args.loose)) (sym of.0)

@@ -6,37 +6,21 @@ use Rattle.near_bound.specs.inside.Decisions.{third_lead}
 use Rattle.near_bound.proofs.MarginLemmas.{lead_wider}
 use Rattle.near_bound.proofs.leads.Leads.total.Goals as goal
 
-pub added_to-with_chosen-requires-clause-near : goal.added_to-with_chosen-requires-clause-near
-added_to-with_chosen-requires-clause-near c =
-    let few = few_members c.args.chosen in
-    lead_wider 400000 50000000 c.args.self.now.pair
-    (omega (arith, few)) c.requires.pair
-
 pub added_to-with_sure-requires-clause-near : goal.added_to-with_sure-requires-clause-near
 added_to-with_sure-requires-clause-near c =
-    let few = few_members c.args.chosen in
-    let also = few_members c.args.sure in
-    lead_wider (400000 + 400000 * length (clubs_in c.args.chosen))
-    50000000 c.added_to-with_chosen.result
-    (omega (arith, few, also)) (c.added_to-with_chosen.ensures.near 400000 c.requires.pair)
+    let few = few_members c.args.sure in
+    lead_wider 400000 50000000 c.args.self.now.pair (omega (arith, few)) c.requires.pair
 
 pub added_to-requires-clause-near : goal.added_to-requires-clause-near
 added_to-requires-clause-near c =
-    let few = few_members c.args.chosen in
-    let also = few_members c.args.sure in
+    let few = few_members c.args.sure in
     let more = few_members c.args.loose in
-    lead_wider (400000 + 400000 * length (clubs_in c.args.chosen)
-    + 400000 * length (clubs_in c.args.sure))
-    50000000 c.added_to-with_sure.result
-    (omega (arith, few, also, more))
-    (c.added_to-with_sure.ensures.near (400000 + 400000 * length (clubs_in c.args.chosen))
-    (c.added_to-with_chosen.ensures.near 400000 c.requires.pair))
+    lead_wider (400000 + 400000 * length (clubs_in c.args.sure)) 50000000
+    c.added_to-with_sure.result (omega (arith, few, more))
+    (c.added_to-with_sure.ensures.near 400000 c.requires.pair)
 
 pub returns : goal.returns
 returns c =
-    let lead = third_lead c.args.capped c.args.self.now in
     c.added_to.ensures.value
     ∙ ap (λ (l : Lead). total_lead l (third_lead true c.args.self.now) (clubs_in c.args.loose))
-    (c.added_to-with_sure.ensures.value
-    ∙ ap (λ (l : Lead). total_lead l lead (clubs_in c.args.sure))
-    c.added_to-with_chosen.ensures.value)
+    c.added_to-with_sure.ensures.value
