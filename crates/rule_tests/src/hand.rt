@@ -61,7 +61,7 @@ fn outcomes_are_split_by_the_points_of_rivals_behind(rt: HostRuntime) -> Result<
     full(&rt, rt.alloc(), LATER, &zone, Test::Home { fixture: 6 })
 }
 
-// If X cannot end level with C, its home win ends what is left of a half, and its match comes first.
+// If X cannot end level with C, one half of X-Y is refuted at once, so that it comes first.
 #[test]
 fn a_rival_that_cannot_end_level_comes_first(rt: HostRuntime) -> Result<(), Fail> {
     let zone = [behind(1), behind(2), behind(3)];
