@@ -8,13 +8,13 @@ use Rattle.cert_check.specs.declared.expected.ReportKind.{ReportKind}
 use Rattle.cert_check.specs.declared.outcome.CheckOutcome.{CheckOutcome}
 use Rattle.cert_check.specs.declared.outcome.CheckOutcome.TheVariants as outcome
 use Rattle.cert_check.specs.inside.InputCalls.{ChecksInput, LeavesCheck}
-use Rattle.futmax_main.specs.declared.status.Status.{Status}
-use Rattle.futmax_main.specs.declared.status.Status.TheVariants.{Done, BadWords, BadSheet, BadFeed}
-use Rattle.futmax_main.specs.declared.status.Status.TheVariants.{ReadFault, WriteFault, OutOfMemory}
-use Rattle.futmax_main.specs.declared.status.Status.TheVariants.{NotProved, TooLong}
+use Rattle.run_ends.specs.declared.status.Status.{Status}
+use Rattle.run_ends.specs.declared.status.Status.TheVariants.{Done, BadWords, BadSheet, BadFeed}
+use Rattle.run_ends.specs.declared.status.Status.TheVariants.{ReadFault, WriteFault, OutOfMemory}
+use Rattle.run_ends.specs.declared.status.Status.TheVariants.{NotProved, TooLong}
 use Rattle.futmax_main.specs.Checks.{ComesTo, ServesCheck, check_row, status_of_check}
 use Rattle.futmax_main.specs.inside.Judging.{OutcomeEnds}
-use Rattle.futmax_main.proofs.TurnLemmas.{fresh-contents}
+use Rattle.session_turns.proofs.TurnLemmas.{fresh-contents}
 use Rattle.league_core.proofs.plain.Streams.{append_known-nothing, nothing_left}
 
 -- no outcome is a fault of the source

@@ -9,8 +9,8 @@ use Rattle.result_log.specs.declared.fault.FeedFault.TheVariants.{UnknownRecord}
 use Rattle.cert_check.specs.declared.expected.ReportKind.{ReportKind}
 use Rattle.cert_check.specs.declared.outcome.ReportFault.TheVariants.{Short}
 use Rattle.cert_check.specs.declared.outcome.CheckOutcome.TheVariants as outcome
-use Rattle.futmax_main.specs.declared.status.Status.TheVariants.{Done, BadSheet, BadFeed}
-use Rattle.futmax_main.specs.declared.status.Status.TheVariants.{NotProved, TooLong}
+use Rattle.run_ends.specs.declared.status.Status.TheVariants.{Done, BadSheet, BadFeed}
+use Rattle.run_ends.specs.declared.status.Status.TheVariants.{NotProved, TooLong}
 use Rattle.futmax_main.specs.Modes.{IsChecked}
 
 -- a line of these words

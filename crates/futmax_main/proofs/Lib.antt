@@ -1,21 +1,4 @@
-pub mod CourseLemmas
-pub mod SheetLemmas
-pub mod StopLemmas
-pub mod LimitLemmas
-pub mod SavedThereLemmas
-pub mod DecidedThereLemmas
-pub mod AnsweredLemmas
-pub mod TextLemmas
-pub mod EndLemmas
-pub mod AnswerLemmas
-pub mod TurnLemmas
-pub mod OriginLemmas
-pub mod HaltLemmas
-pub mod RoundLemmas
-pub mod LastReadLemmas
-pub mod CloseLemmas
-pub mod OpeningLemmas
-pub mod ClosingLemmas
+-- What is earned, a check, and the modes.
 pub mod EarnedLemmas
 pub mod CheckLemmas
 pub mod CheckedLemmas

@@ -2,10 +2,10 @@
 use Rattle.std.proofs.Common.{◌≡◌, ◌≢◌, ℕ, Bool, List, [], ◌++◌, Option, Some, None, refl, subst}
 use Rattle.std.proofs.Common.{codes, replicate, sym, inl, inr}
 use Rattle.std.specs.Prelude.{◌⊎◌}
-use Rattle.futmax_main.specs.declared.status.Status.{Status}
-use Rattle.futmax_main.specs.declared.status.Status.TheVariants.{Done, BadWords, BadSheet, BadFeed}
-use Rattle.futmax_main.specs.declared.status.Status.TheVariants.{ReadFault, WriteFault, OutOfMemory}
-use Rattle.futmax_main.specs.declared.status.Status.TheVariants.{NotProved, TooLong}
+use Rattle.run_ends.specs.declared.status.Status.{Status}
+use Rattle.run_ends.specs.declared.status.Status.TheVariants.{Done, BadWords, BadSheet, BadFeed}
+use Rattle.run_ends.specs.declared.status.Status.TheVariants.{ReadFault, WriteFault, OutOfMemory}
+use Rattle.run_ends.specs.declared.status.Status.TheVariants.{NotProved, TooLong}
 use Rattle.command_words.specs.declared.command.Mode.{Mode}
 use Rattle.command_words.specs.declared.command.Mode.TheVariants.{Verdicts, Table, Scores, WhatIf}
 use Rattle.command_words.specs.declared.command.Mode.TheVariants.{Save, Resume, Decide, Check}
@@ -13,15 +13,15 @@ use Rattle.command_words.specs.declared.command.Mode.TheVariants.{Sample}
 use Rattle.cert_check.specs.declared.expected.ReportKind.{ReportKind}
 use Rattle.futmax_main.specs.Checks.{ServesCheck, kind_of_check}
 use Rattle.futmax_main.specs.SampleRows.{ServesSample}
-use Rattle.futmax_main.specs.Top.{Serves}
-use Rattle.futmax_main.specs.LastReads.{StopsAs, StopsSession}
+use Rattle.session_turns.specs.Top.{Serves}
+use Rattle.session_turns.specs.LastReads.{StopsAs, StopsSession}
 use Rattle.futmax_main.specs.Modes.{IsCheckSettled, IsSettledAs, ReadsNothing, ServesAs}
-use Rattle.futmax_main.specs.inside.Turns.{MayEndAs, MayEndSession}
+use Rattle.session_turns.specs.inside.Turns.{MayEndAs, MayEndSession}
 use Rattle.futmax_main.proofs.EarnedLemmas.{settled}
 use Rattle.futmax_main.proofs.CheckedLemmas.{checked-bad_feed, checked-bad_sheet, checked-done}
 use Rattle.futmax_main.proofs.CheckedLemmas.{checked-not_proved, checked-too_long, ended_line}
 use Rattle.futmax_main.proofs.CheckedLemmas.{pair_sheet}
-use Rattle.futmax_main.proofs.TurnLemmas.{serves-nothing}
+use Rattle.session_turns.proofs.TurnLemmas.{serves-nothing}
 use Rattle.futmax_main.proofs.CheckLemmas.{check-starved}
 use Rattle.league_core.proofs.plain.Streams.{append_known-nothing}
 

@@ -14,11 +14,11 @@ use Rattle.cert_check.specs.declared.outcome.CheckOutcome.TheVariants.{Accepted,
 use Rattle.cert_check.specs.declared.outcome.CheckOutcome.TheVariants.{BadFeed, LineTooLong}
 use Rattle.cert_check.specs.declared.outcome.CheckOutcome.TheVariants.{InputTooLong}
 use Rattle.cert_check.specs.Outcomes.{outcome_of, report_code_of}
-use Rattle.futmax_main.specs.declared.status.Status.{Status}
-use Rattle.futmax_main.specs.declared.status.Status.TheVariants as status
-use Rattle.futmax_main.specs.declared.run_end.Cause.TheVariants as cause
-use Rattle.futmax_main.specs.Courses.{input_fault, line_fault}
-use Rattle.futmax_main.specs.Rows.{fault_row}
+use Rattle.run_ends.specs.declared.status.Status.{Status}
+use Rattle.run_ends.specs.declared.status.Status.TheVariants as status
+use Rattle.run_ends.specs.declared.run_end.Cause.TheVariants as cause
+use Rattle.run_ends.specs.InputEnds.{input_fault, line_fault}
+use Rattle.run_ends.specs.Rows.{fault_row}
 
 -- ---- a report is checked
 

@@ -5,9 +5,9 @@ use Rattle.command_words.specs.declared.command.Mode.{Mode}
 use Rattle.command_words.specs.declared.command.Mode.TheVariants.{Check, Sample}
 use Rattle.cert_check.specs.declared.expected.ReportKind.{ReportKind}
 use Rattle.cert_check.specs.declared.outcome.CheckOutcome.{CheckOutcome}
-use Rattle.futmax_main.specs.declared.status.Status.{Status}
-use Rattle.futmax_main.specs.declared.status.Status.TheVariants.{Done, BadWords, OutOfMemory}
-use Rattle.futmax_main.specs.Top.{IsSettled, RefusesWords, Serves}
+use Rattle.run_ends.specs.declared.status.Status.{Status}
+use Rattle.run_ends.specs.declared.status.Status.TheVariants.{Done, BadWords, OutOfMemory}
+use Rattle.session_turns.specs.Top.{IsSettled, RefusesWords, Serves}
 use Rattle.futmax_main.specs.Checks.{ComesTo, ServesCheck, kind_of_check, status_of_check}
 use Rattle.futmax_main.specs.SampleRows.{ServesSample}
 

@@ -5,8 +5,8 @@ use Rattle.port_core.specs.Ports.{AppendsPrefix, Rose}
 use Rattle.cert_text.specs.Rows.{text_of_row}
 use Rattle.sample_counts.specs.declared.counts.Counts.{Counts}
 use Rattle.sample_counts.specs.SampleCounts.{IsCountOfSample}
-use Rattle.futmax_main.specs.declared.status.Status.{Status}
-use Rattle.futmax_main.specs.declared.status.Status.TheVariants.{Done, WriteFault, OutOfMemory}
+use Rattle.run_ends.specs.declared.status.Status.{Status}
+use Rattle.run_ends.specs.declared.status.Status.TheVariants.{Done, WriteFault, OutOfMemory}
 
 -- `sample,SEED,CLINCHED,LOST,POSSIBLE,UNSETTLED`
 abbrev pub sample_row : ℕ → Counts → List ℕ

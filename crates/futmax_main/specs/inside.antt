@@ -1,11 +1,2 @@
--- What the functions promise each other and the crates above: no promise of the program rests on
--- these words. Read in this order.
-pub mod Statuses
-pub mod FeedCourses
-pub mod Progress
-pub mod Halts
-pub mod Stops
-pub mod Turns
-pub mod TurnReads
-pub mod RoundHalts
+-- What the functions promise each other: no promise of the program rests on these words.
 pub mod Judging

@@ -5,17 +5,15 @@ ghost use Rattle.futmax_main.specs.Checks.{ServesCheck, check_row, refused_row, 
 ghost use Rattle.futmax_main.specs.Checks.{accepted_row};
 ghost use Rattle.futmax_main.specs.Checks as checks;
 ghost use Rattle.futmax_main.specs.inside.Judging.{CountsJudged, OutcomeEnds};
-ghost use Rattle.futmax_main.specs.Top.{Counts};
+ghost use Rattle.session_turns.specs.Top.{Counts};
 
-use crate::rows::fault_row;
-use crate::run_end::{Cause, Fault};
-use crate::status::Status;
 use answer_rows::{number_field, put_row, text_field};
 use cert_check::{CheckFailure, CheckOutcome, ReportFault, ReportKind};
 use cert_text::write_row;
 use league_core::OutOfMemory;
 use par_check::check_input;
 use port_core::{LineReader, Sink, Source};
+use run_ends::{Cause, Fault, Status, fault_row};
 use std::alloc::Global;
 use std::thread::Threads;
 

@@ -3,21 +3,20 @@
 ghost use Rattle.std.specs.Prelude.{◌≡◌, ◌≢◌, Bool, None, Some, map, string_bytes};
 ghost use Rattle.command_words.specs.declared.command.Mode.TheVariants.{Check};
 ghost use Rattle.command_words.specs.Commands.{mode_of};
-ghost use Rattle.futmax_main.specs.LastReads.{StopsAs};
+ghost use Rattle.session_turns.specs.LastReads.{StopsAs};
 ghost use Rattle.futmax_main.specs.Modes.{IsSettledAs, ReadsNothing, ServesAs};
-ghost use Rattle.futmax_main.specs.Top.{Counts, RefusesWords};
-ghost use Rattle.futmax_main.specs.inside.Turns.{CountsWords, MayEndAs};
+ghost use Rattle.session_turns.specs.Top.{Counts, RefusesWords};
+ghost use Rattle.session_turns.specs.inside.Turns.{CountsWords, MayEndAs};
 
 use crate::check::{kind_of_check, run_check};
-use crate::rows::usage_row;
 use crate::sample::run_sample;
 use crate::session::run_session;
 use crate::setup::Setup;
-use crate::status::Status;
 use answer_rows::put_row;
 use command_words::{Command, Mode, command_of};
 use league_core::OutOfMemory;
 use port_core::{Sink, Source};
+use run_ends::{Status, usage_row};
 use std::alloc::Global;
 use std::sync::Wait;
 use std::thread::Threads;

@@ -4,11 +4,11 @@ ghost use Rattle.std.specs.Prelude.{◌≡◌, IfOk};
 ghost use Rattle.futmax_main.specs.SampleRows.{CountsSample, IsSampleText, ServesSample};
 ghost use Rattle.futmax_main.specs.SampleRows.{sample_row};
 
-use crate::status::Status;
 use answer_rows::{number_field, put_row, text_field};
 use cert_text::write_row;
 use league_core::OutOfMemory;
 use port_core::Sink;
+use run_ends::Status;
 use sample_counts::{Counts, count_sample};
 use std::alloc::Global;
 

@@ -25,16 +25,16 @@ use Rattle.kept_lines.specs.LineLists.{numbered}
 use Rattle.cert_check.specs.Outcomes.{outcome_of_feed}
 use Rattle.cert_check.specs.Outcomes.{outcome_of_report, outcome_of_sheet}
 use Rattle.cert_check.proofs.ReadingLemmas.{sheet_read}
-use Rattle.futmax_main.specs.declared.run_end.RunEnd.{RunEnd}
-use Rattle.futmax_main.specs.declared.run_end.RunEnd.TheVariants.{Complete}
+use Rattle.run_ends.specs.declared.run_end.RunEnd.{RunEnd}
+use Rattle.run_ends.specs.declared.run_end.RunEnd.TheVariants.{Complete}
 use Rattle.futmax_main.specs.Checks.{ComesTo}
-use Rattle.futmax_main.specs.Courses.{Course, Origin, course_after, course_of, first_origin}
-use Rattle.futmax_main.specs.Plays.{Played}
-use Rattle.futmax_main.specs.Texts.{AreAnswers, IsLastText}
-use Rattle.futmax_main.specs.inside.FeedCourses.{IsFeedIn, asks_in, course_at_close}
-use Rattle.futmax_main.specs.inside.FeedCourses.{outcome_at_feed}
-use Rattle.futmax_main.proofs.CourseLemmas.{course-of_feed}
-use Rattle.futmax_main.proofs.LimitLemmas.{GivesLimits, sheet-limits}
+use Rattle.session_turns.specs.Courses.{Course, Origin, course_after, course_of, first_origin}
+use Rattle.session_turns.specs.Plays.{Played}
+use Rattle.session_turns.specs.Texts.{AreAnswers, IsLastText}
+use Rattle.session_turns.specs.inside.FeedCourses.{IsFeedIn, asks_in, course_at_close}
+use Rattle.session_turns.specs.inside.FeedCourses.{outcome_at_feed}
+use Rattle.session_turns.proofs.CourseLemmas.{course-of_feed}
+use Rattle.session_turns.proofs.LimitLemmas.{GivesLimits, sheet-limits}
 use Rattle.report_laws.specs.inside.AcceptedReports.{rows_written}
 use Rattle.report_laws.specs.inside.AcceptedTexts.{TextsAreAccepted, input_with_answers}
 use Rattle.report_laws.specs.inside.AcceptedTexts.{mode_of_kind, rows_of_asks, unsettled_told}

@@ -23,8 +23,8 @@ use Rattle.answer_rows.specs.Parts.{club_name}
 use Rattle.answer_rows.specs.Rows.{ask_row, verdict_row}
 use Rattle.pool_save.specs.SavedAnswers.{IsItemText}
 use Rattle.decided_rows.specs.DecidedTexts.{IsDecidedItemText, text_of_wide_lines}
-use Rattle.futmax_main.specs.Answers.{IsAnswerTo}
-use Rattle.futmax_main.specs.Plays.{Played}
+use Rattle.session_turns.specs.Answers.{IsAnswerTo}
+use Rattle.session_turns.specs.Plays.{Played}
 use Rattle.report_laws.specs.inside.AcceptedTexts.{mode_of_kind, unsettled_answered}
 use Rattle.report_laws.proofs.AnswerTextLemmas.{ItemTold, ItemsRead, answer_items}
 use Rattle.report_laws.proofs.ItemLemmas.{dues_on_lines}

@@ -21,12 +21,12 @@ use Rattle.result_log.proofs.FeedLemmas.{season_after-entry}
 use Rattle.line_tokens.specs.declared.token.Token.{Token}
 use Rattle.cert_check.specs.declared.expected.ReportKind.{ReportKind}
 use Rattle.cert_check.specs.declared.expected.ReportKind.TheVariants.{Plain, Wide}
+use Rattle.session_turns.specs.Answers.{IsAnswerTo}
+use Rattle.session_turns.specs.Courses.{asked_about, first_origin}
+use Rattle.session_turns.specs.Plays.{Played}
+use Rattle.session_turns.specs.Texts.{AreAnswers}
+use Rattle.session_turns.specs.inside.FeedCourses.{asks_in}
 use Rattle.report_lines.specs.inside.WrittenReports.{written}
-use Rattle.futmax_main.specs.Answers.{IsAnswerTo}
-use Rattle.futmax_main.specs.Courses.{asked_about, first_origin}
-use Rattle.futmax_main.specs.Plays.{Played}
-use Rattle.futmax_main.specs.Texts.{AreAnswers}
-use Rattle.futmax_main.specs.inside.FeedCourses.{asks_in}
 use Rattle.report_laws.specs.inside.AcceptedReports.{rows_written}
 use Rattle.report_laws.specs.inside.AcceptedTexts.{mode_of_kind, rows_of_asks}
 use Rattle.report_laws.specs.inside.AcceptedTexts.{unsettled_answered, unsettled_told}

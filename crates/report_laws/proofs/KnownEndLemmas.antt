@@ -24,14 +24,14 @@ use Rattle.result_log.specs.declared.fault.FeedFault.{FeedFault}
 use Rattle.result_log.specs.declared.fault.FeedStop.{FeedStop}
 use Rattle.result_log.specs.declared.fault.FeedStop.TheVariants as feed_stop
 use Rattle.result_log.specs.Feeds.{entry_in, feed_by, feed_from}
-use Rattle.futmax_main.specs.declared.run_end.Cause.{Cause}
-use Rattle.futmax_main.specs.declared.run_end.Cause.TheVariants as cause
-use Rattle.futmax_main.specs.declared.run_end.RunEnd.{RunEnd}
-use Rattle.futmax_main.specs.declared.run_end.RunEnd.TheVariants.{Complete, Refused}
-use Rattle.futmax_main.specs.declared.status.Status.TheVariants.{Done}
-use Rattle.futmax_main.specs.Courses.{outcome_at_sheet}
-use Rattle.futmax_main.specs.Texts.{status_of_cause, status_of_outcome}
-use Rattle.futmax_main.specs.inside.FeedCourses.{outcome_at_feed}
+use Rattle.run_ends.specs.declared.run_end.Cause.{Cause}
+use Rattle.run_ends.specs.declared.run_end.Cause.TheVariants as cause
+use Rattle.run_ends.specs.declared.run_end.RunEnd.{RunEnd}
+use Rattle.run_ends.specs.declared.run_end.RunEnd.TheVariants.{Complete, Refused}
+use Rattle.run_ends.specs.declared.status.Status.TheVariants.{Done}
+use Rattle.run_ends.specs.InputEnds.{outcome_at_sheet}
+use Rattle.run_ends.specs.InputEnds.{status_of_cause, status_of_outcome}
+use Rattle.session_turns.specs.inside.FeedCourses.{outcome_at_feed}
 use Rattle.report_laws.proofs.FeedProofsLemmas.{IsUnrefused}
 use Rattle.report_laws.proofs.LineReadLemmas.{ending-with}
 

@@ -3,9 +3,9 @@ use Rattle.std.specs.Prelude.{◌≡◌, ℕ, List, Option}
 use Rattle.std.specs.Io.KnownBytes.{append_known}
 use Rattle.port_core.specs.Ports.{AppendsPrefix, Rose}
 use Rattle.cert_check.specs.declared.outcome.CheckOutcome.{CheckOutcome}
-use Rattle.futmax_main.specs.declared.status.Status.{Status}
-use Rattle.futmax_main.specs.declared.status.Status.TheVariants.{BadWords, ReadFault, WriteFault}
-use Rattle.futmax_main.specs.declared.status.Status.TheVariants.{OutOfMemory}
+use Rattle.run_ends.specs.declared.status.Status.{Status}
+use Rattle.run_ends.specs.declared.status.Status.TheVariants.{BadWords, ReadFault, WriteFault}
+use Rattle.run_ends.specs.declared.status.Status.TheVariants.{OutOfMemory}
 use Rattle.futmax_main.specs.Checks.{check_row, status_of_check}
 
 -- the row of what an input comes to is written, or a device or memory fails

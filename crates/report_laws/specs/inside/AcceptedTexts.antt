@@ -13,13 +13,13 @@ use Rattle.cert_check.specs.declared.expected.ReportKind.{ReportKind}
 use Rattle.cert_check.specs.declared.expected.ReportKind.TheVariants.{Plain, Wide}
 use Rattle.pool_save.specs.SavedAnswers.{IsItemText}
 use Rattle.decided_rows.specs.DecidedTexts.{IsDecidedItemText}
-use Rattle.futmax_main.specs.declared.status.Status.TheVariants.{Done}
-use Rattle.futmax_main.specs.Plays.{Played}
-use Rattle.futmax_main.specs.Answers.{IsAnswerTo}
-use Rattle.futmax_main.specs.Courses.{course_of}
+use Rattle.run_ends.specs.declared.status.Status.TheVariants.{Done}
+use Rattle.session_turns.specs.Plays.{Played}
+use Rattle.session_turns.specs.Answers.{IsAnswerTo}
+use Rattle.session_turns.specs.Courses.{course_of}
 use Rattle.futmax_main.specs.Checks.{IsCheckText, accepted_row}
-use Rattle.futmax_main.specs.Texts.{AreAnswers}
-use Rattle.futmax_main.specs.Top.{session_status, IsText}
+use Rattle.session_turns.specs.Texts.{AreAnswers}
+use Rattle.session_turns.specs.Top.{session_status, IsText}
 use Rattle.report_laws.specs.inside.AcceptedAnswers.{unsettled_one}
 
 -- the mode whose answers with proofs are reports of this kind

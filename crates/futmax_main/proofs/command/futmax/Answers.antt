@@ -2,7 +2,7 @@ use Rattle.std.proofs.Common.{◌≡◌, ◌∙◌, Option, Some, ap, map, strin
 use Rattle.command_words.specs.declared.command.Mode.{Mode}
 use Rattle.command_words.specs.Commands.{mode_of}
 use Rattle.futmax_main.specs.Modes.{IsSettledAs}
-use Rattle.futmax_main.proofs.LastReadLemmas.{stops-unread}
+use Rattle.session_turns.proofs.LastReadLemmas.{stops-unread}
 use Rattle.futmax_main.proofs.ModeLemmas.{mode-settled, only_checks, serves_as-no_memory}
 use Rattle.futmax_main.proofs.ModeLemmas.{settled_as-no_memory}
 use Rattle.futmax_main.proofs.command.futmax.Goals as goal

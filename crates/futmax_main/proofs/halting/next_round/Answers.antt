@@ -5,11 +5,11 @@ use Rattle.command_words.specs.declared.command.Mode.TheVariants.{Verdicts, What
 use Rattle.result_log.specs.inside.Rounds.{live_entry}
 use Rattle.what_if.specs.inside.StepCalls.{live_step}
 use Rattle.command_words.specs.declared.command.Mode.{Mode}
-use Rattle.futmax_main.specs.Courses.{about_in}
-use Rattle.futmax_main.specs.inside.RoundHalts.{IsReportedIn}
-use Rattle.futmax_main.proofs.HaltLemmas.{entries-halt, plain-about_in, plain-reads, reads-as}
-use Rattle.futmax_main.proofs.HaltLemmas.{round-live, round-starves, steps-halt}
-use Rattle.futmax_main.proofs.HaltLemmas.{reported-in, steps-no_proofs}
+use Rattle.session_turns.specs.Courses.{about_in}
+use Rattle.session_turns.specs.inside.RoundHalts.{IsReportedIn}
+use Rattle.session_turns.proofs.HaltLemmas.{entries-halt, plain-about_in, plain-reads, reads-as}
+use Rattle.session_turns.proofs.HaltLemmas.{round-live, round-starves, steps-halt}
+use Rattle.session_turns.proofs.HaltLemmas.{reported-in, steps-no_proofs}
 use Rattle.futmax_main.proofs.halting.next_round.Goals as goal
 use Rattle.league_core.proofs.plain.Options.{err-holds}
 

@@ -1,5 +1,5 @@
 use Rattle.std.proofs.Common.{sym, ◌∙◌}
-use Rattle.futmax_main.proofs.RoundLemmas.{turn-starved}
+use Rattle.session_turns.proofs.RoundLemmas.{turn-starved}
 use Rattle.futmax_main.proofs.session.run_rounds.Goals as goal
 
 pub returns-in_default-clause-serves : goal.returns-in_default-clause-serves

@@ -1,9 +1,9 @@
 use Rattle.std.proofs.Common.{◌≡◌, ◌-◌, ℕ, Bool, List, Option}
 use Rattle.port_core.specs.Contents.{input_limit}
 use Rattle.port_core.specs.Readers.{stream_of}
-use Rattle.futmax_main.specs.inside.Progress.{PathToPool}
-use Rattle.futmax_main.specs.inside.TurnReads.{ComesOn}
-use Rattle.futmax_main.specs.inside.Turns.{IsLive}
+use Rattle.session_turns.specs.inside.Progress.{PathToPool}
+use Rattle.session_turns.specs.inside.TurnReads.{ComesOn}
+use Rattle.session_turns.specs.inside.Turns.{IsLive}
 use Rattle.futmax_main.proofs.session.run_rounds.Given as goal
 
 -- the pool is live and of the sheet, the way and the reads led here from wherever they led to the

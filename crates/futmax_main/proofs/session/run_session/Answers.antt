@@ -1,6 +1,6 @@
 use Rattle.std.proofs.Common.{inl, refl}
-use Rattle.futmax_main.specs.LastReads.{fresh_reader}
-use Rattle.futmax_main.proofs.TurnLemmas.{serves-nothing}
+use Rattle.session_turns.specs.LastReads.{fresh_reader}
+use Rattle.session_turns.proofs.TurnLemmas.{serves-nothing}
 use Rattle.futmax_main.proofs.session.run_session.Goals as goal
 
 pub returns-in_default-clause-serves : goal.returns-in_default-clause-serves

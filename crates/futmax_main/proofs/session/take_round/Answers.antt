@@ -1,7 +1,7 @@
-use Rattle.futmax_main.specs.declared.status.Status.TheVariants.{OutOfMemory}
-use Rattle.futmax_main.proofs.RoundLemmas.{turn-starved}
-use Rattle.futmax_main.proofs.CloseLemmas.{close-counts, close-gives, close-goes_on, close-last}
-use Rattle.futmax_main.proofs.CloseLemmas.{starved-last}
+use Rattle.run_ends.specs.declared.status.Status.TheVariants.{OutOfMemory}
+use Rattle.session_turns.proofs.RoundLemmas.{turn-starved}
+use Rattle.session_turns.proofs.CloseLemmas.{close-counts, close-gives, close-goes_on, close-last}
+use Rattle.session_turns.proofs.CloseLemmas.{starved-last}
 use Rattle.futmax_main.proofs.session.take_round.Goals as goal
 
 pub returns-in-Ok-clause-way : goal.returns-in-Ok-clause-way

@@ -1,5 +1,0 @@
-use Rattle.futmax_main.proofs.CourseLemmas.{course-of_feed}
-use Rattle.futmax_main.proofs.laws.a_course_is_read_line_by_line.Goals as goal
-
-pub returns : goal.returns
-returns c = course-of_feed

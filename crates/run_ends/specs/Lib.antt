@@ -1,0 +1,4 @@
+-- Read in this order: it is the order in which the notions rest on each other.
+pub mod InputEnds
+pub mod Rows
+pub mod inside
