@@ -1,5 +1,5 @@
 -- The clubs of a group by their lists: the held ones, and the loose ones.
-use Rattle.std.proofs.Common.{◌≡◌, ℕ, Bool, true, false, ◌&&◌, ◌==◌, not, List, [], ◌∷◌}
+use Rattle.std.proofs.Common.{◌≡◌, ℕ, Bool, true, false, ◌&&◌, ◌==◌, not, [], ◌∷◌}
 use Rattle.std.proofs.Common.{filter, refl, sym, ap, ◌∙◌}
 use Rattle.std.proofs.lemmas.Bool.{false≢true, and_parts, eq-eqb}
 use Rattle.league_core.specs.declared.club_set.ClubSet.{ClubSet}

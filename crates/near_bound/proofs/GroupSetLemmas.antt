@@ -1,22 +1,17 @@
 -- The clubs of a set: the first one and the rest, or all but one.
-use Rattle.std.proofs.Common.{◌≡◌, ℕ, ◌+◌, ◌<◌, ◌≤◌, Bool, true, false, ◌&&◌, ◌||◌, ◌==◌, not, List}
+use Rattle.std.proofs.Common.{◌≡◌, ℕ, ◌≤◌, Bool, true, false, ◌&&◌, ◌||◌, ◌==◌, not, List}
 use Rattle.std.proofs.Common.{[]}
-use Rattle.std.proofs.Common.{◌∷◌, ◌++◌, cond, filter, refl, sym, ap, ◌∙◌, arith}
+use Rattle.std.proofs.Common.{◌∷◌, filter, sym, ap, ◌∙◌}
 use Rattle.league_core.specs.declared.club_set.ClubSet.{ClubSet}
 use Rattle.league_core.specs.game.Sums.{has_club}
-use Rattle.league_core.specs.game.ClubSets.{clubs_in, clubs_below}
+use Rattle.league_core.specs.game.ClubSets.{clubs_in}
 use Rattle.std.proofs.Common.{eq-eqb, Option, Some, None, MatchOption}
-use Rattle.std.proofs.Common.{◌⊎◌, inl, inr}
+use Rattle.std.proofs.Common.{inl, inr}
 use Rattle.std.specs.List.{list_any}
-use Rattle.std.specs.Int.{bit_at}
-use Rattle.std.proofs.Math.Bool.{or-false, or-true, and-true, and-false}
-use Rattle.std.proofs.lemmas.Bool.{false≢true, and_parts, and_from, or_cases, eqb-true, ne_eqb}
-use Rattle.std.proofs.lemmas.Bool.{cases_lt, cases_Bool, lt-ltb, le-ltb}
-use Rattle.std.proofs.Common.{eqb, ltb}
+use Rattle.std.proofs.Math.Bool.{or-false, or-true}
+use Rattle.std.proofs.lemmas.Bool.{false≢true, and_parts, or_cases, eqb-true}
 use Rattle.league_core.specs.declared.zone.Literal.{Literal}
-use Rattle.league_core.proofs.ClubSetLemmas.{clubs_below-filter, clubs_below-more}
-use Rattle.league_core.proofs.ClubSetLemmas.{clubs_below-filter_range, has_club-clubs_below}
-use Rattle.league_core.proofs.plain.Filters.{filter-true}
+use Rattle.league_core.proofs.ClubSetLemmas.{clubs_below-filter}
 use Rattle.league_core.proofs.WalkLemmas.{first_of_clubs}
 use Rattle.league_core.proofs.plain.Numbers.{eqb-swap}
 use Rattle.near_bound.specs.declared.tie.Tie.{Tie}

@@ -41,6 +41,7 @@ pub mod RangeFitLemmas
 pub mod AllEndsLemmas
 pub mod OpenLemmas
 pub mod AllFitLemmas
+pub mod IdleLemmas
 pub mod FitEndLemmas
 pub mod AbleClubLemmas
 pub mod BothFitLemmas

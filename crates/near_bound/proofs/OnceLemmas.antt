@@ -1,7 +1,7 @@
 -- A club that a list has once, as the list of a set has each of its clubs, and the list without it.
 use Rattle.std.proofs.Common.{◌≡◌, ℕ, zero, suc, ◌+◌, ◌<◌, ◌≤◌, Bool, true, false, ◌||◌, ◌&&◌}
 use Rattle.std.proofs.Common.{◌==◌, not, cond, List, [], ◌∷◌, ◌⊎◌, inl, inr, filter, eqb, ltb}
-use Rattle.std.proofs.Common.{refl, sym, ap, ◌∙◌, subst, eq-eqb, arith}
+use Rattle.std.proofs.Common.{refl, sym, ap, ◌∙◌, subst, arith}
 use Rattle.std.specs.List.{range_with_len}
 use Rattle.std.specs.Int.{bit_at}
 use Rattle.std.proofs.lemmas.Bool.{false≢true, and_parts, cases_eq, ne_eqb, lt-ltb, ltb-true}

@@ -23,7 +23,7 @@ use Rattle.near_bound.specs.inside.Decisions.{lead_capped, leads_anyway}
 use Rattle.near_bound.specs.inside.GroupsLeft.{wrong_in, wrong_anyway, group_is_wrong}
 use Rattle.near_bound.specs.inside.GroupsLeft.{MayForm, AreGroupsIn, FindsWrong}
 use Rattle.near_bound.proofs.GroupSetLemmas.{any_member_passes}
-use Rattle.near_bound.proofs.LeadSumLemmas.{IsLow, low_itself, total_size, capped_size, capped_even}
+use Rattle.near_bound.proofs.LeadSumLemmas.{IsLow, low_itself, capped_size, capped_even}
 use Rattle.near_bound.proofs.LeadSumLemmas.{capped_low}
 use Rattle.near_bound.proofs.OnceLemmas.{is_not}
 use Rattle.near_bound.proofs.AnywayLemmas.{IsGroup, each_group, held_in_group, group_low}

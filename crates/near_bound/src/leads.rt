@@ -102,7 +102,7 @@ impl<'a> Tie<'a> {
         i32::from(self.left.sheet.rank_of(back)) - i32::from(self.left.sheet.rank_of(front))
     }
 
-    // What is fit for both in a fixture.
+    // What is fit for both in a fixture; most are of one of the two alone.
     fn fit_both(&self, fixture: usize, front: u8, back: u8) -> MatchLeft
         requires tie { IsTie self.now }
         requires of_sheet { fixture < length self.now.left.now.sheet.now.fixtures }
@@ -114,7 +114,15 @@ impl<'a> Tie<'a> {
         if left.has_one_at_most() {
             return left;
         }
-        self.fit(fixture, front).shared(&self.fit(fixture, back))
+        if self.stays_out(fixture, front) {
+            return self.fit(fixture, back);
+        }
+        let of_front = self.fit(fixture, front);
+        if self.stays_out(fixture, back) {
+            return of_front;
+        }
+        let of_back = self.fit(fixture, back);
+        of_front.shared(&of_back)
     }
 
     // With one match more: what is fit for both in it is worked out once.

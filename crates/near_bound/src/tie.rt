@@ -9,7 +9,7 @@ ghost use Rattle.near_bound.specs.inside.AllEnds.{AreAllEnds};
 ghost use Rattle.near_bound.specs.inside.ZonesLeft.{IsZoneLeft, StandsFor};
 ghost use Rattle.league_core.specs.search.Options.{has_finish};
 ghost use Rattle.near_bound.specs.inside.Ties.{IsTie, IsTieIn, range_has_points};
-ghost use Rattle.near_bound.specs.inside.FitEnds.{IsRoomyClub};
+ghost use Rattle.near_bound.specs.inside.FitEnds.{IsRoomyClub, IsIdleClub};
 
 use crate::fit::fit;
 use crate::match_left::MatchLeft;
@@ -94,5 +94,22 @@ impl<'a> Tie<'a> {
     {
         let ends = self.ends[club as usize];
         ends.least + 3 <= self.points && self.points <= ends.most - 3
+    }
+
+    /// The club does not play there, and its range has the points: all scores are fit for it.
+    pub fn stays_out(&self, fixture: usize, club: u8) -> bool
+        requires tie { IsTie self.now }
+        requires of_sheet { fixture < length self.now.left.now.sheet.now.fixtures }
+        requires in_range { club < length self.now.left.now.sheet.now.clubs }
+        ensures { result ≡ true → IsIdleClub self.now fixture club }
+    {
+        let teams = self.match_of(fixture);
+        if teams.home == club {
+            return false;
+        }
+        if teams.away == club {
+            return false;
+        }
+        self.has_in_range(club)
     }
 }

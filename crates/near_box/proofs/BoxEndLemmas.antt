@@ -8,7 +8,7 @@ use Rattle.league_core.specs.declared.sheet.Sheet.{Sheet}
 use Rattle.league_core.specs.declared.sheet.Fixture.{Fixture}
 use Rattle.league_core.specs.declared.season.Score.{Score}
 use Rattle.league_core.specs.declared.zone.Literal.{Literal}
-use Rattle.league_core.specs.game.Results.{Results, are_results}
+use Rattle.league_core.specs.game.Results.{are_results}
 use Rattle.league_core.specs.search.Options.{has_score, options_in}
 use Rattle.league_core.specs.search.PointRanges.{range_of, range_from, added, one_value}
 use Rattle.league_core.specs.search.PointRanges.{points_together, least_points_of, most_points_of}

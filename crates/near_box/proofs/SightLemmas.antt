@@ -1,5 +1,5 @@
 -- What the tests say of a zone's matches and marks is so of the box.
-use Rattle.std.proofs.Common.{◌≡◌, ℕ, ℤ, ◌<◌, true, false, ◌&&◌, ◌||◌, List, [], length, Option}
+use Rattle.std.proofs.Common.{◌≡◌, ℕ, ℤ, true, false, ◌&&◌, ◌||◌, List, [], length, Option}
 use Rattle.std.proofs.Common.{Some, None, Bool, sym, ap, ◌∙◌, subst, arith}
 use Rattle.std.proofs.lemmas.Bool.{false≢true}
 use Rattle.league_core.specs.declared.club_set.ClubSet.{ClubSet}
@@ -20,7 +20,6 @@ use Rattle.near_bound.specs.inside.PlayedParts.{IsPlayedPart}
 use Rattle.near_bound.specs.inside.ZonesLeft.{AreLeftOf, IsZoneLeft, StandsFor}
 use Rattle.score_box.specs.inside.ZoneBoxViews.{ZoneBoxView}
 use Rattle.near_box.specs.declared.keep.Rivals.{Rivals}
-use Rattle.near_box.specs.inside.Pressed.{is_pressed_in}
 use Rattle.near_box.specs.inside.Sights.{ArePressed, IsFirstNear, IsFirstOf}
 use Rattle.near_box.specs.inside.ZoneMatches.{IsOfBox}
 use Rattle.near_box.proofs.PressedLemmas.{no_near}

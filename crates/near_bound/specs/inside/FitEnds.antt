@@ -21,12 +21,18 @@ use Rattle.near_bound.specs.inside.AbleRivals.{lacks_fit}
 use Rattle.near_bound.specs.inside.Margins.{IsNumberWithin}
 use Rattle.near_bound.specs.inside.PairLeads.{HasFit}
 use Rattle.near_bound.specs.inside.Points.{range_of_ends, ends_listed}
-use Rattle.near_bound.specs.inside.Ties.{IsTieIn, fits_of, range_has_points}
+use Rattle.near_bound.specs.inside.Ties.{IsTieIn, fits_of, range_has_points, match_at}
 
 -- the points lie at least three from both ends of the club's range
 pub record IsRoomyClub (tie : Tie) (club : ℕ) : Type 0 where
   pub above : ((ends_listed tie.ends club).least +ℤ pos 3) ≤ℤ tie.points
   pub below : tie.points ≤ℤ ((ends_listed tie.ends club).most -ℤ pos 3)
+
+-- the club does not play in the fixture, and its range has the points
+pub record IsIdleClub (tie : Tie) (fixture club : ℕ) : Type 0 where
+  pub not_home : (match_at tie fixture).home ≢ club
+  pub not_away : (match_at tie fixture).away ≢ club
+  pub has : range_has_points tie club ≡ true
 
 -- of each fixture what the zone leaves
 abbrev pub left_options : Tie → List Literal → List (List Score)

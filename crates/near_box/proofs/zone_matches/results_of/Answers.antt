@@ -1,6 +1,6 @@
 use Rattle.std.proofs.Common.{arith, ◌∙◌, ap, length}
 use Rattle.std.proofs.lemmas.List.{length-set}
-use Rattle.near_box.proofs.ZoneMatchLemmas.{one_result_more, all_results}
+use Rattle.near_box.proofs.ZoneMatchLemmas.{one_result_more}
 use Rattle.near_box.proofs.zone_matches.results_of.Goals as goal
 
 pub loop-i-preserved : goal.loop-i-preserved

@@ -1,4 +1,4 @@
-use Rattle.std.proofs.Common.{◌&&◌, ℕ, List, Option, filter, length, sym, ap}
+use Rattle.std.proofs.Common.{◌&&◌, ℕ, List, Option, filter, sym, ap}
 use Rattle.std.proofs.Common.{◌∙◌, subst, arith}
 use Rattle.std.specs.List.{list_all}
 use Rattle.std.proofs.Math.Bool.{and-false, and-true}
