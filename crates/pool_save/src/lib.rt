@@ -4,7 +4,6 @@
 //! gives, in `specs/SavedReadings.antt`. Read them in this order.
 #![tactic(auto)]
 
-mod answer_laws;
 mod item;
 mod laws;
 mod reader;
@@ -13,11 +12,8 @@ mod saving;
 mod so_far;
 mod stop;
 mod taking_up;
+mod unspent_laws;
 
-pub use answer_laws::{
-    nearly_saved_questions_are_not_shown_spent, nearly_saved_questions_stay_so,
-    unspent_verdicts_are_items,
-};
 pub use item::{item_lines, item_row};
 pub use laws::{
     nearly_refuted_questions_are_not_spent, saved_texts_are_read_back, written_texts_are_read_back,
@@ -27,3 +23,7 @@ pub use saving::put_saved;
 pub use so_far::{SavedSoFar, Taken};
 pub use stop::SaveStop;
 pub use taking_up::take_up;
+pub use unspent_laws::{
+    nearly_saved_questions_are_not_shown_spent, nearly_saved_questions_stay_so,
+    unspent_verdicts_are_items,
+};

@@ -1,5 +1,5 @@
 -- What holds of answers right after saved trees were taken up. Each statement is the contract of a
--- function of src/answer_laws.rt that does nothing.
+-- function of src/unspent_laws.rt that does nothing.
 use Rattle.std.specs.Prelude.{◌≡◌, ◌≢◌, ℕ, Bool, false, IsTrue, List, Option, Some, All, map}
 use Rattle.league_core.specs.declared.sheet.Sheet.{Sheet}
 use Rattle.league_core.specs.declared.question.Claim.{Claim}

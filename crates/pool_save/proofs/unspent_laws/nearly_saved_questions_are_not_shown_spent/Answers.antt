@@ -1,7 +1,7 @@
 use Rattle.pool_save.proofs.SpentLineLemmas.{known_word_unspent, known_item_unspent}
 use Rattle.pool_save.proofs.SpentLineLemmas.{shown_lines_unspent}
 use Rattle.pool_save.proofs.UnspentLemmas.{verdicts_unspent}
-use Rattle.pool_save.proofs.answer_laws.nearly_saved_questions_are_not_shown_spent.Goals as goal
+use Rattle.pool_save.proofs.unspent_laws.nearly_saved_questions_are_not_shown_spent.Goals as goal
 
 pub returns-clause-verdicts : goal.returns-clause-verdicts
 returns-clause-verdicts c = verdicts_unspent

@@ -1,5 +1,5 @@
 use Rattle.pool_save.proofs.SavedPoolLemmas.{taken_nearly_saved, works_nearly_saved}
-use Rattle.pool_save.proofs.answer_laws.nearly_saved_questions_stay_so.Goals as goal
+use Rattle.pool_save.proofs.unspent_laws.nearly_saved_questions_stay_so.Goals as goal
 
 pub returns-clause-taken : goal.returns-clause-taken
 returns-clause-taken c = taken_nearly_saved
