@@ -14,7 +14,7 @@ MOST_WORDS = (
     ("docs/GLOSSARY.md", 1200), ("docs/*.md", 2500), ("bench/README.md", 1000),
     ("checks/README.md", 600), ("crates/*/README.md", 400), ("examples/*/about.md", 300))
 # how many words all of them may have together, but for SECURITY and the examples
-MOST_TOGETHER = 35200
+MOST_TOGETHER = 35000
 # the pages that are read
 PAGES = ("README.md", "SECURITY.md", "docs/*.md", "bench/README.md", "checks/README.md",
          "crates/*/README.md", "examples/*/about.md")
