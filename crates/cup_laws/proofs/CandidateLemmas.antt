@@ -31,7 +31,7 @@ use Rattle.cup_laws.proofs.PlaceTakenLemmas.{some_in_range, any_in_range, place_
 use Rattle.cup_laws.proofs.GroupEndLemmas.{ended, IsEndOf}
 
 -- the lots of the cup are lots of the group
-own_drawn : (clubs : ℕ) (group : GroupState) (finish : Results) (lots : List ℕ)
+pub own_drawn : (clubs : ℕ) (group : GroupState) (finish : Results) (lots : List ℕ)
     → IsEndOf clubs group finish → are_lots clubs lots ≡ true
     → are_lots (length group.sheet.clubs) (lots_within group.block lots) ≡ true
 own_drawn clubs group finish lots end drawn =
@@ -62,7 +62,7 @@ pub candidate_else : (place : ℕ) → nat_le place 1 ≡ false → nat_lt 2 pla
 candidate_else place direct past = grind (arith, nat_tests, direct, past)
 
 -- what comes first, whatever the lots say, has as great a key
-up_to_before : (order lots : Ordering) → is_lt (ordering_then order lots) ≡ true
+pub up_to_before : (order lots : Ordering) → is_lt (ordering_then order lots) ≡ true
     → is_le order ≡ true
 up_to_before Less lots is = refl
 up_to_before Equal lots is = refl

@@ -31,12 +31,12 @@ use Rattle.cup_laws.proofs.CandidateLemmas.{not_at_end, candidate_else, after_tr
 use Rattle.cup_laws.proofs.CandidateLemmas.{some_better}
 
 -- the groups as they end
-abbrev HaveEnds : Cup → List Results → List Results → Type 0
+abbrev pub HaveEnds : Cup → List Results → List Results → Type 0
 HaveEnds cup seasons finishes =
     (k : ℕ) (group : GroupState) → slice_get (states_of cup seasons) k ≡ Some group
     → EndsAt (clubs_together cup.groups) 0 cup.groups finishes k group
 
-have_ends : (cup : Cup) (seasons finishes : List Results) (lots : List ℕ) → IsCup cup
+pub have_ends : (cup : Cup) (seasons finishes : List Results) (lots : List ℕ) → IsCup cup
     → AreCupResults seasons → IsJointFinish cup seasons finishes lots
     → HaveEnds cup seasons finishes
 have_ends cup seasons finishes lots is_cup results joint k group there =
@@ -45,7 +45,7 @@ have_ends cup seasons finishes lots is_cup results joint k group there =
     (omega arith) k group there
 
 -- the club is in the block of its group, and has its number there
-in_own_block : (clubs : ℕ) (group : GroupState) (finish : Results) (club own : ℕ)
+pub in_own_block : (clubs : ℕ) (group : GroupState) (finish : Results) (club own : ℕ)
     → IsEndOf clubs group finish → own < length group.sheet.clubs
     → club ≡ group.block.first + own
     → (is_in_block group.block club ≡ true) × (number_in_group group.block club ≡ own)

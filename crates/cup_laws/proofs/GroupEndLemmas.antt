@@ -132,7 +132,7 @@ states_are_all first (sheet ∷ groups) (season ∷ seasons) (finish ∷ finishe
     omega (arith, rest)
 
 -- the clubs of the groups from a number on are from this number on
-from_first : (first : ℕ) (groups : List Sheet) (results : List Results) (k : ℕ)
+pub from_first : (first : ℕ) (groups : List Sheet) (results : List Results) (k : ℕ)
     (group : GroupState) → slice_get (states_from first groups results) k ≡ Some group
     → first ≤ group.block.first
 from_first first [] results k group there = absurd (let c : None ≡ Some group = there in cc)

@@ -207,33 +207,35 @@ value_taken f count (suc below) one least most low high =
         ∙ any_in_range (λ k. f k == suc below) 0 count k start inside
         (eq-eqb (f k) (suc below) same))
 
+-- no two clubs have one place
+pub same_place : (sheet : Sheet) (finish : Results) (lots : List ℕ) (club other : ℕ)
+    → are_lots (length sheet.clubs) lots ≡ true → club < length sheet.clubs
+    → other < length sheet.clubs
+    → place_of sheet finish lots club ≡ place_of sheet finish lots other → club ≡ other
+same_place sheet finish lots club other drawn inside other_inside same =
+    elim (cases_Bool (club == other)) as (λ _. club ≡ other) [
+      | inl is ↦ eqb-true club other is
+      | inr differ ↦ elim (ranks_before-one sheet finish lots club other drawn inside other_inside
+          (λ is. false≢true (sym differ ∙ eq-eqb club other is))) as (λ _. club ≡ other) [
+            | inl before ↦ absurd (omega (
+              arith,
+              same,
+              place_of-before sheet finish lots club other inside before,
+            ))
+            | inr before ↦ absurd (omega (
+              arith,
+              same,
+              place_of-before sheet finish lots other club other_inside before,
+            ))
+          ]
+    ]
+
 -- each place from 1 to the number of clubs is some club's
 pub place_taken : (sheet : Sheet) (finish : Results) (lots : List ℕ) (place : ℕ)
     → are_lots (length sheet.clubs) lots ≡ true → 1 ≤ place → place ≤ length sheet.clubs
     → (club : ℕ) × (club < length sheet.clubs) × (place_of sheet finish lots club ≡ place)
 place_taken sheet finish lots place drawn low high =
     value_taken (place_of sheet finish lots) (length sheet.clubs) place
-    (λ club other _ inside _ other_inside same. one club other (omega (arith, inside))
-    (omega (arith, other_inside)) same)
+    (λ club other _ inside _ other_inside same. same_place sheet finish lots club other drawn
+    (omega (arith, inside)) (omega (arith, other_inside)) same)
     (λ club inside. omega arith) (λ club inside. place_of-le sheet finish lots club inside) low high
-  where
-    one : (club other : ℕ) → club < length sheet.clubs → other < length sheet.clubs
-        → place_of sheet finish lots club ≡ place_of sheet finish lots other → club ≡ other
-    one club other inside other_inside same =
-        elim (cases_Bool (club == other)) as (λ _. club ≡ other) [
-          | inl is ↦ eqb-true club other is
-          | inr differ ↦ elim (ranks_before-one sheet finish lots club other drawn inside
-              other_inside (λ is. false≢true (sym differ ∙ eq-eqb club other is))) as
-              (λ _. club ≡ other) [
-                | inl before ↦ absurd (omega (
-                  arith,
-                  same,
-                  place_of-before sheet finish lots club other inside before,
-                ))
-                | inr before ↦ absurd (omega (
-                  arith,
-                  same,
-                  place_of-before sheet finish lots other club other_inside before,
-                ))
-              ]
-        ]
