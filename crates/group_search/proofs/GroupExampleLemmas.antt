@@ -33,7 +33,7 @@ use Rattle.cup_sheet.specs.GroupQuestions.{is_key_on_side, is_of_place, holds_in
 use Rattle.cup_sheet.specs.GroupQuestions.{place_question, direct_question}
 use Rattle.cup_sheet.specs.GroupQuestions.{below_question}
 use Rattle.cup_sheet.specs.GroupTrees.{proposed_in_group}
-use Rattle.group_search.specs.inside.GroupLooks.{IsGroupVain}
+use Rattle.group_search.specs.inside.GroupLooks.{IsVainInGroup}
 
 -- ---- places and sides of a line
 
@@ -175,7 +175,7 @@ module _ (sheet : Sheet) (season : Results) (question : GroupQuestion) (zone : L
   pub vain_by_place : IsWithinLimits sheet → are_results season ≡ true
       → is_proposed_example sheet season
       (place_question direct_places question.kind question.club) zone ≡ false
-      → IsGroupVain sheet season question zone
+      → IsVainInGroup sheet season question zone
   vain_by_place limits results never = λ lots example.
       proposed_in_vain sheet season (place_question direct_places question.kind question.club)
       zone never lots
@@ -188,7 +188,7 @@ module _ (sheet : Sheet) (season : Results) (question : GroupQuestion) (zone : L
       → ((lots : List ℕ) → are_lots (length sheet.clubs) lots ≡ true
       → place_of sheet (proposed_in_group direct_places sheet season question zone) lots
       question.club ≢ direct_places + 1)
-      → IsGroupVain sheet season question zone
+      → IsVainInGroup sheet season question zone
   vain_by_lots of_candidate none = λ lots example.
       let proposed = proposed_in_group direct_places sheet season question zone in
       none lots example.is_drawn

@@ -41,7 +41,7 @@ use Rattle.cup_sheet.specs.GroupQuestions.{is_key_refuted, is_key_on_side, place
 use Rattle.cup_sheet.specs.GroupQuestions.{reach_question, after_question}
 use Rattle.cup_sheet.specs.GroupTrees.{proposed_in_group, IsFairGroupSplit}
 use Rattle.group_search.specs.inside.SecondLots.{second_lots}
-use Rattle.group_search.specs.inside.GroupLooks.{IsGroupVain, IsGroupLookIn}
+use Rattle.group_search.specs.inside.GroupLooks.{IsVainInGroup, IsGroupLookIn}
 use Rattle.group_search.specs.inside.GroupTasks.{AskedInGroup, MayLookInGroup, SplitsInGroup}
 use Rattle.group_search.proofs.SecondLotsLemmas.{second_between}
 use Rattle.group_search.proofs.SecondLotsLemmas.{second_lots-are_lots}
@@ -86,7 +86,7 @@ module _ (sheet : Sheet) (season : Results) (question : GroupQuestion) (zone : L
 
   -- of a kind about the place alone it would be an example
   place_is_shown : is_of_place question.kind ≡ true → is_single sheet season zone ≡ true
-      → IsGroupVain sheet season question zone → ⊥
+      → IsVainInGroup sheet season question zone → ⊥
   place_is_shown of_place single in_vain =
       let place = place_question direct_places question.kind question.club in
       let lots = lots_for_claim (length sheet.clubs) place.club place.claim in
@@ -154,7 +154,7 @@ module _ (sheet : Sheet) (season : Results) (question : GroupQuestion) (zone : L
 
   -- so there would be an example here too
   candidate_is_shown : is_of_place question.kind ≡ false → is_single sheet season zone ≡ true
-      → IsGroupVain sheet season question zone → ⊥
+      → IsVainInGroup sheet season question zone → ⊥
   candidate_is_shown of_candidate single in_vain =
       let found = second_between sheet proposed
       (lots_for_claim (length sheet.clubs) question.club Inside)
@@ -166,7 +166,7 @@ module _ (sheet : Sheet) (season : Results) (question : GroupQuestion) (zone : L
       (second_lots-are_lots (length sheet.clubs) found.0 question.club found.1 club_in found.2)
       found.3 (is_on_side of_candidate single))
 
-  pub group_has_several : IsGroupVain sheet season question zone
+  pub group_has_several : IsVainInGroup sheet season question zone
       → is_single sheet season zone ≡ false
   group_has_several in_vain =
       elim (cases_Bool (is_single sheet season zone))
@@ -182,7 +182,7 @@ module _ (sheet : Sheet) (season : Results) (question : GroupQuestion) (zone : L
 -- a due split where neither an example nor a reason is found
 pub group_split_is_fair : (setting : ZoneBoxView) (question : GroupQuestion) (test : Test)
     → has_finish setting.sheet setting.season setting.zone ≡ true
-    → IsGroupVain setting.sheet setting.season question setting.zone
+    → IsVainInGroup setting.sheet setting.season question setting.zone
     → ((reason : GroupReason) → has_group_reason direct_places setting.sheet setting.season question
     setting.zone reason ≡ false)
     → IsDueSplit setting (place_question direct_places question.kind question.club) test

@@ -6,7 +6,7 @@ ghost use Rattle.score_box.specs.inside.ZoneBoxViews.{HasFinish};
 ghost use Rattle.branch_rules.specs.inside.Found.{is_proposed_example};
 ghost use Rattle.cup_sheet.specs.CupLimits.{direct_places};
 ghost use Rattle.cup_sheet.specs.GroupQuestions as asked;
-ghost use Rattle.group_search.specs.inside.GroupLooks.{IsGroupExampleOf, IsGroupVain};
+ghost use Rattle.group_search.specs.inside.GroupLooks.{IsGroupExampleOf, IsVainInGroup};
 ghost use Rattle.group_search.specs.inside.KindQuestions.{group_question_of};
 
 use crate::question::KindQuestion;
@@ -30,7 +30,7 @@ pub(crate) fn example_in(
     requires results { IsTrue (are_results zone_box.now.season) }
     ensures found { IfOk result (λ answer. IfSome answer (IsGroupExampleOf zone_box.now.sheet
         zone_box.now.season (group_question_of question.now))) }
-    ensures absent { IfOk result (λ answer. answer ≡ None → IsGroupVain zone_box.now.sheet
+    ensures absent { IfOk result (λ answer. answer ≡ None → IsVainInGroup zone_box.now.sheet
         zone_box.now.season (group_question_of question.now) zone_box.now.zone) }
 {
     let _limits = zone_box.sheet();
@@ -79,7 +79,7 @@ fn example_of_candidate(
     requires of_candidate { asked.is_of_place question.now.kind ≡ false }
     ensures found { IfOk result (λ answer. IfSome answer (IsGroupExampleOf zone_box.now.sheet
         zone_box.now.season (group_question_of question.now))) }
-    ensures absent { IfOk result (λ answer. answer ≡ None → IsGroupVain zone_box.now.sheet
+    ensures absent { IfOk result (λ answer. answer ≡ None → IsVainInGroup zone_box.now.sheet
         zone_box.now.season (group_question_of question.now) zone_box.now.zone) }
 {
     let _played = zone_box.season();

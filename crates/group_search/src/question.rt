@@ -33,8 +33,8 @@ impl KindQuestion {
         ensures club { result.club ≡ self.now.club }
     {
         match self.kind {
-            GroupKind::Top => whole(self.club, DIRECT_PLACES, Claim::Inside),
-            GroupKind::Below => whole(self.club, DIRECT_PLACES + 1, Claim::Outside),
+            GroupKind::Top => full_question(self.club, DIRECT_PLACES, Claim::Inside),
+            GroupKind::Below => full_question(self.club, DIRECT_PLACES + 1, Claim::Outside),
             GroupKind::SecondLess
             | GroupKind::SecondAtLeast
             | GroupKind::SecondMore
@@ -47,7 +47,7 @@ impl KindQuestion {
         ensures value { result ≡ asked.reach_question direct_places self.now.club }
         ensures club { result.club ≡ self.now.club }
     {
-        whole(self.club, DIRECT_PLACES + 1, Claim::Inside)
+        full_question(self.club, DIRECT_PLACES + 1, Claim::Inside)
     }
 
     /// Whether the club can end after the direct places.
@@ -55,7 +55,7 @@ impl KindQuestion {
         ensures value { result ≡ asked.after_question direct_places self.now.club }
         ensures club { result.club ≡ self.now.club }
     {
-        whole(self.club, DIRECT_PLACES, Claim::Outside)
+        full_question(self.club, DIRECT_PLACES, Claim::Outside)
     }
 
     /// The kind is about the place alone.
@@ -96,7 +96,7 @@ impl KindQuestion {
 }
 
 // The question about a club and a line with the full window.
-fn whole(club: u8, line: u8, claim: Claim) -> Question
+fn full_question(club: u8, line: u8, claim: Claim) -> Question
     ensures { result ≡ full_question club line claim }
 {
     Question {

@@ -7,7 +7,7 @@ ghost use Rattle.score_box.specs.inside.ZoneBoxViews.{HasFinish};
 ghost use Rattle.cup_sheet.specs.declared.question.GroupReason.{GroupReason};
 ghost use Rattle.cup_sheet.specs.CupLimits.{direct_places};
 ghost use Rattle.cup_sheet.specs.GroupQuestions.{has_group_reason};
-ghost use Rattle.group_search.specs.inside.GroupLooks.{IsGroupLookIn, IsGroupVain};
+ghost use Rattle.group_search.specs.inside.GroupLooks.{IsGroupLookIn, IsVainInGroup};
 ghost use Rattle.group_search.specs.inside.GroupTasks.{AskedInGroup, asked_in_group};
 ghost use Rattle.group_search.specs.inside.GroupTasks.{MayLookInGroup, ShowsInGroup};
 ghost use Rattle.group_search.specs.inside.GroupTasks.{RefutesInGroup, SplitsInGroup};
@@ -63,6 +63,17 @@ impl<'a> Kind for GroupTask<'a> {
     }
 }
 
+impl<'a> GroupTask<'a> {
+    // Depth first, until the question is known or the budget is spent.
+    fn work(&mut self, budget: u32) -> Result<SearchEnd<Example, GroupReason>, OutOfMemory>
+        requires root { MayLookInGroup (asked_in_group self.old) [] }
+        ensures { IfOk result (IsGroupSolved self.old.zone_box.sheet self.old.zone_box.season
+            (group_question_of self.old.question) budget) }
+    {
+        work_through(self.alloc, self, budget)
+    }
+}
+
 // The proposed finish if it is an example; otherwise a reason or a split.
 fn find_in_group(
     alloc: Global,
@@ -91,7 +102,7 @@ fn reason_or_split(
 ) -> Result<ZoneLook<Example, GroupReason>, OutOfMemory>
     requires has_finish { HasFinish zone_box.now }
     requires in_range { question.now.club < length zone_box.now.sheet.clubs }
-    requires in_vain { IsGroupVain zone_box.now.sheet zone_box.now.season
+    requires in_vain { IsVainInGroup zone_box.now.sheet zone_box.now.season
         (group_question_of question.now) zone_box.now.zone }
     ensures { IfOk result (IsGroupLookIn zone_box.now.sheet zone_box.now.season
         (group_question_of question.now) zone_box.now.zone) }
@@ -106,7 +117,7 @@ fn reason_or_split(
 fn split_of(zone_box: &ZoneBox, question: &KindQuestion) -> ZoneLook<Example, GroupReason>
     requires has_finish { HasFinish zone_box.now }
     requires in_range { question.now.club < length zone_box.now.sheet.clubs }
-    requires in_vain { IsGroupVain zone_box.now.sheet zone_box.now.season
+    requires in_vain { IsVainInGroup zone_box.now.sheet zone_box.now.season
         (group_question_of question.now) zone_box.now.zone }
     requires no_reason { (reason : GroupReason) → has_group_reason direct_places
         zone_box.now.sheet zone_box.now.season (group_question_of question.now)
@@ -140,15 +151,4 @@ pub fn solve_group(
         question: *question,
     };
     task.work(sheet.budget)
-}
-
-impl<'a> GroupTask<'a> {
-    // Depth first, until the question is known or the budget is spent.
-    fn work(&mut self, budget: u32) -> Result<SearchEnd<Example, GroupReason>, OutOfMemory>
-        requires root { MayLookInGroup (asked_in_group self.old) [] }
-        ensures { IfOk result (IsGroupSolved self.old.zone_box.sheet self.old.zone_box.season
-            (group_question_of self.old.question) budget) }
-    {
-        work_through(self.alloc, self, budget)
-    }
 }

@@ -22,8 +22,8 @@ IsGroupReasonIn sheet season question zone reason =
     IsTrue (has_group_reason direct_places sheet season question zone reason)
 
 -- with none of the lots is the zone's proposed finish an example
-abbrev pub IsGroupVain : Sheet → Results → GroupQuestion → List Literal → Type 0
-IsGroupVain sheet season question zone =
+abbrev pub IsVainInGroup : Sheet → Results → GroupQuestion → List Literal → Type 0
+IsVainInGroup sheet season question zone =
     (lots : List ℕ) → ¬ IsGroupExample direct_places sheet season question
     (proposed_in_group direct_places sheet season question zone) lots
 
