@@ -7,12 +7,10 @@
 #![tactic(auto)]
 
 mod example;
-mod laws;
 mod question;
 mod reason;
 mod second;
 mod task;
 
-pub use laws::group_refutations_leave_nothing;
 pub use question::KindQuestion;
 pub use task::solve_group;
