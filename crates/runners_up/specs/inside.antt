@@ -1,0 +1,10 @@
+-- How a cup ends if each of its groups ends in a given way, and what that shows of a club; where
+-- a club plays; the joint finish as the code keeps it; what is asked of other groups; a side.
+pub mod JointEnds
+pub mod ClubSeats
+pub mod JointCalls
+pub mod GroupsAsked
+pub mod GroupSurveys
+pub mod SidesAtKeys
+pub mod SidesByPlace
+pub mod SideLaws
