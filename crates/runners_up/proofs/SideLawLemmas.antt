@@ -69,7 +69,7 @@ numbers_are P Q (suc n) (group ∷ listed) each all (suc k) d inside =
 -- ---- groups with their seasons
 
 -- a group with its season, after so many clubs
-abbrev state_in : ℕ → Sheet → Results → GroupState
+abbrev pub state_in : ℕ → Sheet → Results → GroupState
 state_in first sheet season = record {
   block = record { first = first; count = length sheet.clubs };
   sheet = sheet;
@@ -96,7 +96,7 @@ season_there first (group ∷ groups) (own ∷ seasons) (suc number) sheet seaso
     season_there (first + length group.clubs) groups seasons number sheet season there own_there
     ∙ ap (λ (n : ℕ). Some (state_in n sheet season)) at
 
-state_of_number : (cup : Cup) (seasons : List Results) (number : ℕ) (sheet : Sheet)
+pub state_of_number : (cup : Cup) (seasons : List Results) (number : ℕ) (sheet : Sheet)
     (season : Results) → slice_get cup.groups number ≡ Some sheet
     → slice_get seasons number ≡ Some season
     → slice_get (states_of cup seasons) number
@@ -129,7 +129,7 @@ empty_is_listed cup seasons claim key mine sheet season is_cup there group empty
 )
 
 -- the club is one of the cup's
-club_of : (cup : Cup) (seasons : List Results) (club : ℕ) (seat : ClubSeat) (sheet : Sheet)
+pub club_of : (cup : Cup) (seasons : List Results) (club : ℕ) (seat : ClubSeat) (sheet : Sheet)
     (season : Results) → IsSeatOf cup club seat → IsOwnGroup cup seasons seat sheet season
     → IsClubOf cup seasons club (state_in (clubs_before cup.groups seat.group) sheet season)
     seat.own

@@ -20,5 +20,5 @@ pub use laws::{joint_ends_show, open_groups_leave_sides_open, refuted_sides_are_
 pub use others::{GroupAsked, SpentQuestion, ask_group};
 pub use place::{SideByPlace, side_by_place};
 pub use seat::{ClubSeat, seat_of};
-pub use side::{SideAtKey, side_at_key};
+pub use side::{SideAtKey, listed_groups, side_at_key};
 pub use survey::{EmptyGroup, FarSide, GroupSurvey, OpenGroup, survey_groups};

@@ -77,8 +77,8 @@ fn shown_groups(cup: &Cup, claim: Claim) -> usize
     }
 }
 
-// So many refute it.
-fn listed_groups(cup: &Cup, claim: Claim) -> usize
+/// How many other groups without a candidate on the far side refute a side.
+pub fn listed_groups(cup: &Cup, claim: Claim) -> usize
     requires { IsCup cup.now }
     ensures { result ≡ listed_groups cup.now claim }
 {

@@ -16,6 +16,7 @@ use tree_arena::Example;
 
 /// What is asked of all groups but one: a candidate with a key no less than this one, for missing,
 /// or no greater, for qualifying.
+#[derive(Drop)]
 pub struct FarSide {
     pub claim: Claim,
     pub key: ClubKey,

@@ -95,7 +95,7 @@ sum_near worth near club (match ∷ matches) (Some score ∷ scores) all =
 
 -- ---- the rank
 
-rank_within : (clubs : List Club) (club : ℕ) → list_all is_club clubs ≡ true
+pub rank_within : (clubs : List Club) (club : ℕ) → list_all is_club clubs ≡ true
     → slice_index (map (λ c. c.rank) clubs) club ≤ 999
 rank_within [] club all = omega arith
 rank_within (first ∷ clubs) zero all =

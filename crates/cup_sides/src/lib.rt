@@ -1,0 +1,17 @@
+//! What is known of a club of a cup, and what each of its sides comes to.
+//!
+//! Whether a club can qualify, or can miss: a joint finish shows it, trees refute it, or the budget
+//! was spent on the way. The meaning is cup_sheet's `specs/CupAnswers.antt`; read it first, then
+//! `specs/inside/CupSides.antt` and `specs/inside/CupVerdicts.antt` here.
+#![tactic(auto)]
+
+mod by_key;
+mod cup_side;
+mod far;
+mod results;
+mod side;
+mod verdict;
+
+pub use cup_side::{CupSide, SideRefutation};
+pub use side::side_of;
+pub use verdict::{CupVerdict, OpenSide, cup_verdict};
