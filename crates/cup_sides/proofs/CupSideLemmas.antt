@@ -201,6 +201,7 @@ module _ (cup : Cup) (seasons : List Results) (claim : Claim) (club : ℕ) (seat
         seat = seat;
         seated = at;
         trees = trees;
+        turning = found.turning;
         refuted = sides_are_refuted cup seasons claim club seat (key_parts key) place.items
             outer.items listed.items is_cup at trees;
       }

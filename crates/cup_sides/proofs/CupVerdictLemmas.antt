@@ -70,6 +70,7 @@ module _ (cup : Cup) (seasons : List Results) (club : ℕ) (is_cup : IsCup cup)
       has_example cup seasons Inside club joint is,
       has_spent cup seasons Outside club group other,
     ),
+    refl,
     is,
     other,
   )
@@ -81,6 +82,7 @@ module _ (cup : Cup) (seasons : List Results) (club : ℕ) (is_cup : IsCup cup)
       has_spent cup seasons Inside club group is,
       has_example cup seasons Outside club last other,
     ),
+    refl,
     is,
     other,
   )
@@ -92,6 +94,7 @@ module _ (cup : Cup) (seasons : List Results) (club : ℕ) (is_cup : IsCup cup)
       has_spent cup seasons Inside club group is,
       has_spent cup seasons Outside club last other,
     ),
+    refl,
     is,
     other,
   )

@@ -9,7 +9,9 @@ use Rattle.depth_search.specs.inside.Cases.{Cases, case_nodes}
 use Rattle.cup_sheet.specs.declared.cup.Cup.{Cup}
 use Rattle.cup_sheet.specs.declared.question.GroupReason.{GroupReason}
 use Rattle.cup_sheet.specs.CupAnswers.{IsCupExample, IsCupRefuted, IsCupSpent, listed_groups}
+use Rattle.cup_sheet.specs.CupLimits.{direct_places}
 use Rattle.cup_sheet.specs.JointFinishes.{GroupState, states_of}
+use Rattle.cup_sheet.specs.KeyBounds.{IsTurningKey}
 use Rattle.group_search.specs.inside.GroupTasks.{new_group_tree}
 use Rattle.group_search.specs.inside.KindQuestions.{group_question_of}
 use Rattle.runners_up.specs.declared.seat.ClubSeat.{ClubSeat}
@@ -26,13 +28,15 @@ use Rattle.cup_sides.specs.declared.cup_side.CupSide.TheVariants.{Shown, Refuted
 use Rattle.cup_sides.specs.declared.cup_side.SideRefutation.{SideRefutation}
 
 -- the trees refute the side: those about the club itself, and those of the first groups listed, as
--- many as are needed
+-- many as are needed; the key is the one on which the side turns in the club's group
 pub record IsSideRefutedBy (cup : Cup) (seasons : List Results) (claim : Claim) (club : ℕ)
     (found : SideRefutation) : Type 0 where
   pub seat : ClubSeat
   pub seated : IsSeatOf cup club seat
   pub trees : IsSideRefuted cup seasons claim seat (key_parts found.key) found.place.items
       found.outer.items found.listed.items
+  pub turning : IsTurningKey direct_places trees.sheet trees.season claim seat.own
+      (key_parts found.key)
   pub refuted : IsCupRefuted cup seasons claim club (key_parts found.key)
       (take (listed_groups cup claim) (group_numbers found.listed.items))
 

@@ -1,5 +1,5 @@
 -- What is known of a club of a cup, with what shows it.
-use Rattle.std.specs.Prelude.{ℕ, List}
+use Rattle.std.specs.Prelude.{ℕ, Bool, true, false, ◌||◌, IsTrue, List}
 use Rattle.league_core.specs.declared.question.Claim.{Claim}
 use Rattle.league_core.specs.declared.question.Claim.TheVariants.{Inside, Outside}
 use Rattle.league_core.specs.game.Results.{Results}
@@ -27,7 +27,13 @@ abbrev pub IsOpenSide : Cup → List Results → Claim → ℕ → OpenSide → 
 IsOpenSide cup seasons claim club (Shown joint) = IsSideShownBy cup seasons claim club joint
 IsOpenSide cup seasons claim club (Spent group) = IsSideSpentBy cup seasons claim club group
 
--- the word is true, and each part shows what it has to
+-- the budget was spent on the way to the side
+abbrev pub is_spent_side : OpenSide → Bool
+is_spent_side (Shown joint) = false
+is_spent_side (Spent group) = true
+
+-- the word is true, and each part shows what it has to; a club that is not settled has a side on
+-- which the budget was spent
 abbrev pub IsCupVerdict : Cup → List Results → ℕ → CupVerdict → Type 0
 IsCupVerdict cup seasons club (Clinched found) =
     IsClinchedInCup cup seasons club × IsSideRefutedBy cup seasons Outside club found
@@ -37,8 +43,8 @@ IsCupVerdict cup seasons club (Possible inside outside) =
     IsPossibleInCup cup seasons club × IsSideShownBy cup seasons Inside club inside
     × IsSideShownBy cup seasons Outside club outside
 IsCupVerdict cup seasons club (Unsettled inside outside) =
-    IsUnsettledInCup cup seasons club × IsOpenSide cup seasons Inside club inside
-    × IsOpenSide cup seasons Outside club outside
+    IsUnsettledInCup cup seasons club × IsTrue (is_spent_side inside || is_spent_side outside)
+    × IsOpenSide cup seasons Inside club inside × IsOpenSide cup seasons Outside club outside
 
 -- what both sides come to, if that the club misses is not refuted
 abbrev pub verdict_with : CupSide → OpenSide → CupVerdict
