@@ -1,0 +1,10 @@
+use Rattle.std.proofs.Common.{◌≡◌, ◌++◌, take}
+use Rattle.cup_rows.specs.GroupTreeLines.{group_spent_lines}
+use Rattle.cup_rows.proofs.tree_lines.push_spent.Given as goal
+
+-- the lines of the nodes so far stand under the head
+abbrev pub invariant-loop-node : goal.invariant-loop-node
+invariant-loop-node l =
+    l.lines.items
+    ≡ l.fn.lines.items
+    ++ group_spent_lines l.fn.start l.fn.question (take l.node-index l.nodes)
