@@ -13,12 +13,13 @@ from pathlib import Path
 
 from reference import League, take
 from schema import faults_of
+from worked import league_examples
 
 HOME = Path(__file__).resolve().parents[2]
 sys.path.append(str(HOME / "bench" / "shared"))
 from double_round import league as double_round  # noqa: E402
 LEAGUE = HOME / "tools" / "league"
-EXAMPLES = sorted(path.parent for path in (HOME / "examples").glob("*/wanted.csv"))
+EXAMPLES = league_examples()
 SHIRE = HOME / "examples" / "shire-league-20"
 PROGRAM = os.environ.get("FUTMAX") or str(HOME / "crates" / "futmax" / "out" / "futmax")
 SCHEMA = json.loads((HOME / "docs" / "answer.schema.json").read_text("utf-8"))

@@ -10,11 +10,18 @@ PARTS_BEHIND = {"possible": 2, "unsettled": 2, "clinched": 0, "lost": 0}
 
 
 class AnswerEnd:
-    """Takes the lines of one answer, and says of each whether it was the last."""
+    """Takes the lines of one answer, and says of each whether it was the last. Of a cup it has to
+    know how many clubs each group has.
+    """
 
-    def __init__(self, clubs: int, lines: int, mode: str, has_proofs: bool = False) -> None:
+    def __init__(self, clubs: int, lines: int, mode: str, has_proofs: bool = False,
+                 sizes: tuple[int, ...] = ()) -> None:
         self.rows = clubs if mode == "table" else clubs * lines
         self.has_proofs = has_proofs
+        # the proof of a cup's row has two trees about its club, and one about each club of the
+        # groups that it lists
+        self.trees = 2 if sizes else 1
+        self.sizes = sizes
         self.parts = 0
         self.branches = 0
         self.fault: tuple[str, ...] = ()
@@ -43,16 +50,19 @@ class AnswerEnd:
             return sum(".." in part for part in fields[3:5])
         word = fields[3] if kind == "verdict" and len(fields) > 3 else ""
         if word in ("clinched", "lost") and self.has_proofs:
-            return 1
+            return self.trees
         return PARTS_BEHIND.get(word, 0)
 
     def _take_proof_line(self, raw: bytes) -> None:
         """A line of an example or of a tree."""
         try:
-            word = json.loads(raw)[0]
+            parts = json.loads(raw)
+            word = parts[0]
+            if word == "groups":
+                self.parts += sum(self.sizes[group - 1] for group in parts[1])
         except (ValueError, IndexError, TypeError, RecursionError):
             return
-        if word in ("tree", "spent"):
+        if word in ("tree", "spent", "group_tree", "group_spent"):
             self.branches = 1
         elif word in ("split", "new_split"):
             self.branches += 1

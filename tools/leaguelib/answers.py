@@ -9,6 +9,7 @@ from .records import Record, Refused, lines_of, number_of, record_of
 
 WORDS = ("clinched", "lost", "possible", "unsettled")
 OUTCOMES = ("home", "draw", "away")
+PLACE_KINDS = ("top", "below")
 WIDTHS = {"ask": 2, "when": 4, "verdict": 4, "place": 8, "score": 5, "fault": 3, "usage": 2,
           "accepted": 3, "refused": 3}
 
@@ -39,19 +40,35 @@ class ProofLine:
     parts: list
 
 
+@dataclass(frozen=True)
+class GroupQuestion:
+    """What a tree in an answer for a cup is about: a kind, a club from 1, and a key where the head
+    has one.
+    """
+
+    kind: str
+    club: int
+    key: tuple[int, ...] = ()
+
+
 @dataclass
 class Proof:
-    """The tree after a row: `kind` is `tree` or `spent`, `lines` what follows the opening line."""
+    """The tree after a row: `kind` is `tree` or `spent`, `lines` what follows the opening line; of
+    a cup it is about a question.
+    """
 
     kind: str
     claim: str
     window: tuple[int, int] | None = None
     lines: list[ProofLine] = field(default_factory=list)
+    question: GroupQuestion | None = None
 
 
 @dataclass
 class Verdict:
-    """A verdict row with what follows it; `examples` and `proofs` are by claim."""
+    """A verdict row with what follows it; `examples` and `proofs` are by claim. In the proof of a
+    cup's row `key` and `groups`, from 1, stand before its refutations.
+    """
 
     places: int
     club: str
@@ -59,6 +76,9 @@ class Verdict:
     line: int = 0
     examples: dict[str, Example] = field(default_factory=dict)
     proofs: dict[str, Proof] = field(default_factory=dict)
+    key: tuple[int, ...] = ()
+    groups: list[int] = field(default_factory=list)
+    refutations: list[Proof] = field(default_factory=list)
 
 
 @dataclass(frozen=True)
@@ -213,8 +233,32 @@ class _ReportReader:
             window = (int(parts[2]), int(parts[3])) if len(parts) > 2 else None
             self.proof = Proof(word, str(parts[1]), window)
             self.verdict.proofs[self.proof.claim] = self.proof
+        elif word in ("key", "groups", "group_tree", "group_spent"):
+            self._take_group_parts(word, parts)
         else:
             self.proof.lines.append(ProofLine(line, parts))
+
+
+    def _take_group_parts(self, word: str, parts: list) -> None:
+        """Takes a line that stands in the proof of a cup's row alone."""
+        verdict = self.verdict
+        if word == "key":
+            verdict.key = tuple(int(part) for part in parts[1])
+        elif word == "groups":
+            verdict.groups = [int(group) for group in parts[1]]
+        else:
+            key = tuple(int(part) for part in parts[3]) if len(parts) > 3 else ()
+            if word == "group_spent" and (parts[1] in PLACE_KINDS) != (not key):
+                raise ValueError("a key stands after some kinds alone")
+            question = GroupQuestion(str(parts[1]), int(parts[2]), key)
+            if word == "group_tree":
+                self.proof = Proof("tree", "", question=question)
+                verdict.refutations.append(self.proof)
+                return
+            is_second = "inside" in verdict.examples or "inside" in verdict.proofs
+            claim = "outside" if is_second else "inside"
+            self.proof = Proof("spent", claim, question=question)
+            verdict.proofs[claim] = self.proof
 
 
 def _natural(record: Record, position: int) -> int:

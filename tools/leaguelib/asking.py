@@ -10,8 +10,10 @@ from typing import Iterator
 
 from . import common
 from .answers import Answer
+from .cups import begins_a_cup
 from .feeds import Input, read_input
 from .given import Given
+from .group_tables import run_tables
 from .line_names import asked_lines
 from .lines import joined_answer, line_runs, with_lines_of
 from .modes import DECIDE, known_mode, mode_words
@@ -62,8 +64,13 @@ class Outcome:
 
 
 def run_mode(path: str, mode: str, data: bytes, *words: str) -> Run:
-    """Runs a mode of the program by one thread; trees after scores are left out."""
-    run = run_program(path, mode_words(known_mode(path, mode), *words), data)
+    """Runs a mode of the program by one thread, of a cup the mode that is its own; trees after
+    scores are left out.
+    """
+    is_cup = begins_a_cup(data)
+    if is_cup and mode == "table" and league_of(data) is not None:
+        return run_tables(path, data)
+    run = run_program(path, mode_words(known_mode(path, mode, is_cup), *words), data)
     if mode != "scores":
         return run
     rows = [row for row in run.output.split(b"\n") if not row.startswith(b"[")]
@@ -172,13 +179,13 @@ def input_before(data: bytes, league: Input, position: int) -> bytes:
 
 
 def with_budget(data: bytes, budget: int) -> bytes:
-    """The input with this budget in its `league` record."""
+    """The input with this budget in its `league` or `cup` record."""
     lines = data.split(b"\n")
     for number, raw in enumerate(lines):
         record = record_of(number + 1, raw.rstrip(b"\r"))
         if record is None:
             continue
-        if record.kind == "league" and len(record.fields) in (3, 4, 5):
+        if record.kind in ("league", "cup") and len(record.fields) in (3, 4, 5):
             fields = [*record.fields[:3], budget, *record.fields[4:]]
             row = row_text(*fields).rstrip("\n")
             lines[number] = row.encode("utf-8", "surrogateescape")

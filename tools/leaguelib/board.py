@@ -18,6 +18,7 @@ from .answers import Place, Verdict
 from .asking import (ASK, Asked, ask_mode, budget_note, input_before, position_of, run_mode,
                      with_budget)
 from .changes import Change, changes_between, words_of
+from .cup_why import CupWhy, own_proofs
 from .enough import score_words
 from .feeds import Input
 from .front import add_budget_argument
@@ -50,7 +51,7 @@ class Board:
     """What a page shows of one ask; `changes` is none if no ask stands before it.
 
     `reasons` are short ones in words, `proved` the verdicts whose proofs were accepted, `enough`
-    tells of open places how many points are enough.
+    tells of open places how many points are enough; of a cup `told` has all reasons.
     """
 
     sheet: Sheet
@@ -66,6 +67,7 @@ class Board:
     proved: dict[Mark, Verdict] = field(default_factory=dict)
     enough: dict[Mark, str] = field(default_factory=dict)
     days: dict[int, str] = field(default_factory=dict)
+    told: dict[Mark, list[str]] = field(default_factory=dict)
     made: str = ""
     note: str = ""
     budget: int = 0
@@ -101,13 +103,15 @@ def add_arguments(parser: argparse.ArgumentParser) -> None:
 
 def run(arguments: argparse.Namespace) -> int:
     """Writes the page, and gives the exit status."""
-    given = gather(arguments.files)
+    given = gather(arguments.files, takes_cup=True)
     league = league_in(given)
     position = position_of(league, arguments.ask)
     path = common.program_path(arguments.program)
     with Progress("board", 0, arguments.progress):
         board = board_of(path, given, league, position, arguments.budget)
-    if arguments.tonight and board.lines:
+    if arguments.tonight and board.sheet.is_cup:
+        common.say("league: --tonight is for leagues, and left out")
+    elif arguments.tonight and board.lines:
         _add_outlook(board, path, input_before(given.data, league, position), arguments.progress)
     common.write_text(page_text(board), arguments.output)
     return common.DONE
@@ -135,6 +139,9 @@ def board_of(path: str, given: Given, league: Input, position: int,
                                         words_of(now.answer.verdicts))
         board.events_since = season.events - before.season.events
     front = input_before(given.data, league, position) + ASK
+    if league.sheet.is_cup:
+        _add_told(board, path, given.data, league, now)
+        return board
     _add_reasons(board, path, front, league, now)
     _add_scores(board, path, front)
     return board
@@ -147,6 +154,15 @@ def _test_names(board: Board) -> None:
     if {place.club for place in board.table} != clubs or not set(board.verdicts) <= wanted:
         raise common.Trouble("the answer of futmax does not fit this sheet: it may be an older "
                              "program. Build it anew.", common.NO_PROGRAM)
+
+
+def _add_told(board: Board, path: str, data: bytes, league: Input, now: Asked) -> None:
+    """Adds the reasons of a cup's marks."""
+    front = with_budget(input_before(data, league, now.position) + ASK, now.budget)
+    proved = own_proofs(path, front, league)
+    why = CupWhy(path, data, league, now.position, board.table, now.budget, proved)
+    for mark, verdict in board.verdicts.items():
+        board.told[mark] = why.sentences(verdict)
 
 
 def _add_reasons(board: Board, path: str, front: bytes, league: Input, now: Asked) -> None:
@@ -164,7 +180,7 @@ def _add_reasons(board: Board, path: str, front: bytes, league: Input, now: Aske
             missing.add(verdict.places)
     for lines in line_runs(sorted(missing)) if missing else []:
         told = own_report(path, with_budget(with_lines_of(front, lines), now.budget), league)
-        for verdict in told.report.answers[-1].verdicts if told.is_checked else []:
+        for verdict in told.report.answers[-1].verdicts if told.is_told else []:
             mark = (verdict.places, verdict.club)
             if verdict.proofs and board.verdicts[mark].word == verdict.word:
                 board.proved[mark] = verdict

@@ -11,7 +11,7 @@ from .names import SPACES, tidy
 from .records import fields_of
 
 KINDS = ("league", "club", "match", "line", "season", "result", "fix", "void", "deduct", "ask",
-         "when")
+         "when", "cup", "group")
 OTHER_WORDS = {
     "team": "club", "teams": "club", "clubs": "club", "verein": "club", "equipo": "club",
     "matches": "match", "game": "match", "games": "match", "fixture": "match",
@@ -22,6 +22,7 @@ OTHER_WORDS = {
     "canceled": "void", "abandoned": "void", "postponed": "void", "delete": "void",
     "deduction": "deduct", "deducted": "deduct", "penalty": "deduct", "minus": "deduct",
     "answer": "ask", "verdicts": "ask", "table": "ask", "question": "ask", "asks": "ask",
+    "cups": "cup", "groups": "group",
     "leagues": "league", "competition": "league", "start": "season", "seasons": "season",
 }
 ROUND_QUOTES = "“”„‟«»"

@@ -6,6 +6,7 @@ from collections import Counter
 from dataclasses import dataclass
 from typing import Iterator
 
+from .cup_words import cup_doubts
 from .names import plain_form, shown, tidy
 from .texts import Entry, Season, Sheet
 
@@ -27,6 +28,9 @@ class Doubt:
 def sheet_doubts(sheet: Sheet, is_for_table: bool = False) -> Iterator[Doubt]:
     """What looks wrong in a sheet; for the table alone no line is needed."""
     yield from name_doubts(sheet)
+    if sheet.is_cup:
+        yield from _group_doubts(sheet)
+        return
     if not sheet.lines and not is_for_table:
         yield Doubt(0, "the sheet has no `line`, so `verdicts` has nothing to say. Write "
                        "`line,1` for "
@@ -35,6 +39,14 @@ def sheet_doubts(sheet: Sheet, is_for_table: bool = False) -> Iterator[Doubt]:
         yield Doubt(0, "the sheet has no `match`: there is nothing to play for")
         return
     yield from pair_doubts(sheet)
+
+
+def _group_doubts(cup: Sheet) -> Iterator[Doubt]:
+    """What looks wrong in a cup, and within each of its groups."""
+    yield from (Doubt(0, message) for message in cup_doubts(cup))
+    for group in cup.groups:
+        for doubt in pair_doubts(group) if group.fixtures else ():
+            yield Doubt(doubt.line, f"group {shown(group.name)}: {doubt.message}")
 
 
 def name_doubts(sheet: Sheet) -> Iterator[Doubt]:

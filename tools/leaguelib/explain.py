@@ -3,8 +3,9 @@
 --why gives the reasons: the shortest first, by points alone, by clubs that cannot pass, by matches
 between rivals, by clubs that can be level at the most; then the steps of the program's proof. The
 answer is the program's, or a report made elsewhere (--answer, or after the record `proofs` of the
-input). A proof is put into words only if the program's mode `check` has accepted its report. A feed
-with `when` lines is told as `league tonight` tells an evening.
+input). A proof is put into words only if the program's mode `check` has accepted its report; of a
+cup, whose reports no mode checks, only the program's own. A feed with `when` lines is told as
+`league tonight` tells an evening.
 """
 
 from __future__ import annotations
@@ -32,7 +33,7 @@ from .why import USUAL_STEPS, Why, why_text
 from .wording import listed, paragraph
 
 __all__ = ["add_arguments", "run", "own_report"]
-NO_CHECK = ("This report was not checked, since the program here has no mode `check`: what "
+NO_CHECK = ("This report was not checked, since the program here has no mode that does: what "
             "follows is what it says. Its proofs are left out.")
 
 
@@ -62,7 +63,7 @@ def add_arguments(parser: argparse.ArgumentParser) -> None:
 
 def run(arguments: argparse.Namespace) -> int:
     """Explains one ask, and gives the exit status."""
-    given = gather(arguments.files)
+    given = gather(arguments.files, takes_cup=True)
     path = common.program_path(arguments.program)
     told = whens_text(given, path, arguments)
     if told:
@@ -180,6 +181,8 @@ def _test_names(sheet: Sheet, season: Season, ask: Asked) -> None:
     numbers = {fixture.number for fixture in season.open_fixtures(sheet)}
     for verdict in ask.answer.verdicts:
         fits = sheet.club_named(verdict.club) and 0 < verdict.places < len(sheet.clubs)
+        fits = fits and all(0 < it.question.club <= len(sheet.clubs)
+                            for it in verdict.proofs.values() if it.question is not None)
         for example in verdict.examples.values():
             known = sorted(example.lots) == [club.number for club in sheet.clubs]
             fits = fits and known and set(example.scores) == numbers

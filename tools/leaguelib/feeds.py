@@ -4,6 +4,7 @@ from __future__ import annotations
 
 from dataclasses import dataclass, field
 
+from .cups import CupReader, reader_for
 from .records import Record, Refused, count_lines, number_of, records_of
 from .texts import (FEED_WIDTHS, MOST_DEDUCTION, MOST_EVENTS, MOST_GOALS, Entry, Season, Sheet,
                     SheetReader)
@@ -109,10 +110,15 @@ class Input:
 
 
 class InputReader:
-    """Takes the records of a whole input one by one: those of the sheet, then those of the feed."""
+    """Takes the records of a whole input one by one: those of the sheet, then those of the feed.
 
-    def __init__(self, takes_proofs: bool = False, takes_whens: bool = False) -> None:
-        self.sheet_reader = SheetReader()
+    The first record tells whether the sheet is a cup's, unless `is_cup` does.
+    """
+
+    def __init__(self, takes_proofs: bool = False, takes_whens: bool = False,
+                 is_cup: bool | None = None) -> None:
+        self.is_cup = is_cup
+        self.sheet_reader = CupReader() if is_cup else SheetReader()
         self.feed_reader: FeedReader | None = None
         self.takes_proofs = takes_proofs
         self.takes_whens = takes_whens
@@ -124,7 +130,7 @@ class InputReader:
 
     def copy(self) -> InputReader:
         """The same reader, to be tried apart from this one."""
-        other = InputReader(self.takes_proofs, self.takes_whens)
+        other = InputReader(self.takes_proofs, self.takes_whens, self.is_cup)
         other.sheet_reader = self.sheet_reader.copy()
         if self.feed_reader is not None:
             other.feed_reader = self.feed_reader.copy()
@@ -134,22 +140,28 @@ class InputReader:
         """Takes the next record, or raises `Refused` and changes nothing; gives a feed's entry."""
         if self.feed_reader is not None:
             return self.feed_reader.take(record)
+        if self.sheet is None:
+            self.sheet_reader = reader_for(record, self.is_cup)
         self.sheet_reader.take(record)
         if self.sheet_reader.is_ended:
-            self.feed_reader = FeedReader(self.sheet_reader.sheet, self.takes_proofs,
-                                          self.takes_whens)
+            self.end_sheet()
         return None
+
+    def end_sheet(self) -> None:
+        """Goes on with the feed, as after `season`."""
+        self.feed_reader = FeedReader(self.sheet_reader.sheet, self.takes_proofs, self.takes_whens)
 
     def test_end(self, lines: int) -> None:
         """Raises `Refused` if the input may not end after so many lines."""
         if self.feed_reader is None:
-            code = "no_league" if self.sheet is None else "no_season"
+            code = self.sheet_reader.missing if self.sheet is None else "no_season"
             raise Refused(lines + 1, code, 0, "sheet")
 
 
-def read_input(data: bytes, takes_proofs: bool = False, takes_whens: bool = False) -> Input:
+def read_input(data: bytes, takes_proofs: bool = False, takes_whens: bool = False,
+               is_cup: bool | None = None) -> Input:
     """Reads a sheet and the feed after it, or raises `Refused` at the line the program refuses."""
-    reader = InputReader(takes_proofs, takes_whens)
+    reader = InputReader(takes_proofs, takes_whens, is_cup)
     entries: list[Entry] = []
     for record in records_of(data):
         entry = reader.take(record)
@@ -164,10 +176,10 @@ def read_input(data: bytes, takes_proofs: bool = False, takes_whens: bool = Fals
 
 def read_sheet(data: bytes) -> Sheet:
     """Reads a file that holds a sheet; lines after `season` are not looked at."""
-    reader = SheetReader()
+    reader = InputReader()
     for record in records_of(data):
         reader.take(record)
-        if reader.is_ended:
+        if reader.feed_reader is not None:
             return reader.sheet
-    code = "no_league" if reader.sheet is None else "no_season"
-    raise Refused(count_lines(data) + 1, code, 0, "sheet")
+    reader.test_end(count_lines(data))
+    raise AssertionError("the sheet has ended")

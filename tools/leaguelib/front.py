@@ -58,7 +58,7 @@ def _budget(text: str) -> int:
 
 def answered(arguments: argparse.Namespace, mode: str, tell: Tell) -> int:
     """Asks the program in this mode, writes its answer as it is wanted, and gives the status."""
-    given = gather(arguments.files)
+    given = gather(arguments.files, takes_cup=mode != "scores")
     is_for_people = not (arguments.json or arguments.rows)
     with Progress(f"futmax {mode}", 0, arguments.progress), futmax_statuses():
         path = common.program_path(arguments.program)

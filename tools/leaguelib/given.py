@@ -8,12 +8,15 @@ import argparse
 from dataclasses import dataclass
 
 from . import common
+from .cups import begins_a_cup, first_kind
 from .files import Joined, examine, joined
 from .names import shown
-from .records import Refused, fields_of, lines_of, record_of
+from .records import fields_of
 
 MOST_QUOTED = 80
 STANDARD_INPUT = "standard input"
+NO_CUP = ("this is the sheet of a cup, which this part does not take; `league ask`, `table`, "
+          "`explain`, `board`, `live`, `feed` and `lint` do.")
 
 
 @dataclass
@@ -75,14 +78,19 @@ def read_all(paths: list[str]) -> list[tuple[str, bytes]]:
     return [(STANDARD_INPUT if path == "-" else path, common.read_bytes(path)) for path in paths]
 
 
-def gather(paths: list[str], adds_ask: bool = True) -> Given:
+def gather(paths: list[str], adds_ask: bool = True, takes_cup: bool = False) -> Given:
     """Reads the files, the sheet first, and adds an ask where the feed has none."""
-    return given_of(read_all(paths), adds_ask)
+    return given_of(read_all(paths), adds_ask, takes_cup)
 
 
-def given_of(files: list[tuple[str, bytes]], adds_ask: bool = True) -> Given:
-    """The files as one input, the sheet first, with an ask added where the feed has none."""
-    files = sorted(files, key=lambda file: not _begins_a_sheet(file[1]))
+def given_of(files: list[tuple[str, bytes]], adds_ask: bool = True,
+             takes_cup: bool = False) -> Given:
+    """The files as one input, the sheet first, with an ask added where the feed has none; raises
+    `Trouble` at the sheet of a cup where none is taken.
+    """
+    files = sorted(files, key=lambda file: first_kind(file[1]) not in ("league", "cup"))
+    if files and begins_a_cup(files[0][1]) and not takes_cup:
+        raise common.Trouble(f"{files[0][0]}: {NO_CUP}", common.BAD_WORDS)
     for name, data in files:
         for message in examine(data).messages:
             raise common.Trouble(f"{name}: {message}.")
@@ -93,18 +101,6 @@ def given_of(files: list[tuple[str, bytes]], adds_ask: bool = True) -> Given:
     if adds_ask and has_season and not has_ask and not report_line:
         data = ended(data) + b"ask\n"
     return Given(whole, data, [name for name, _ in files], has_ask, report_line)
-
-
-def _begins_a_sheet(data: bytes) -> bool:
-    """Whether the first record of a file is that of a sheet."""
-    try:
-        for number, raw in lines_of(data):
-            record = record_of(number, raw)
-            if record is not None:
-                return record.kind == "league"
-    except Refused:
-        pass
-    return False
 
 
 def ended(data: bytes) -> bytes:

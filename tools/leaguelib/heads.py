@@ -45,6 +45,7 @@ KNOWN = frozenset(
     "notiz bemerkung tv channel sender matchnumber matchno matchid gameid number nr no num id "
     "spielnummer spielnr index link url report matchreport".split())
 DIVISIONS = frozenset("div division league liga competition".split())
+GROUPS = frozenset("group gruppe grupo gruppo groupe girone poule".split())
 SEASONS = frozenset("season saison temporada stagione epoca".split())
 # what bookmakers offer, as football-data has it after the matches
 ODDS = re.compile(r"^(?:b365|bw|bfe?d?|bmgm|bv|cl|lb|ps?|wh|1xb|iw|vc|max|avg|gb|bs|sb|sj|sy|so|"

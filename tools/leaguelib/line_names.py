@@ -15,6 +15,7 @@ import re
 from dataclasses import dataclass, field
 
 from . import common
+from .cups import begins_a_cup
 from .records import Refused, lines_of, number_of, record_of
 from .texts import Sheet
 from .wording import place_phrase
@@ -22,17 +23,23 @@ from .wording import place_phrase
 INSIDE = re.compile(r"^#\s*line\s+(\d{1,2})\s*(?::\s*(.*\S)?)?\s*$", re.IGNORECASE)
 BELOW = re.compile(r"^#\s*below\s+line\s+(\d{1,2})\s*:\s*(.*\S)\s*$", re.IGNORECASE)
 RELEGATED = "relegated"
+QUALIFICATION = "qualification"
 
 
 @dataclass
 class LineNames:
-    """What the places inside and outside a line are called, by the line."""
+    """What the places inside and outside a line are called, by the line; of a cup its one line
+    is qualification.
+    """
 
     inside: dict[int, str] = field(default_factory=dict)
     below: dict[int, str] = field(default_factory=dict)
+    is_cup: bool = False
 
     def place(self, places: int) -> str:
         """What a line asks for: `Champions League (top 4)`, or in words alone."""
+        if self.is_cup:
+            return QUALIFICATION
         if places not in self.inside:
             return place_phrase(places)
         count = "first place" if places == 1 else f"top {places}"
@@ -44,7 +51,9 @@ class LineNames:
 
 
 def names_in(data: bytes) -> LineNames:
-    """The names that stand in the comments of a sheet."""
+    """The names that stand in the comments of a sheet; that of a cup has none."""
+    if begins_a_cup(data):
+        return LineNames(is_cup=True)
     names = LineNames()
     for _, text in _comments(data):
         found = INSIDE.match(text)
@@ -58,6 +67,8 @@ def names_in(data: bytes) -> LineNames:
 
 def asked_lines(data: bytes, sheet: Sheet) -> list[int]:
     """All lines of a sheet, those that stand in comments alone among them, from the first on."""
+    if sheet.is_cup:
+        return sheet.lines
     more = [places for _, places in comment_lines(data) if 0 < places < len(sheet.clubs)]
     return sorted(set(sheet.lines) | set(more)) if set(more) - set(sheet.lines) else sheet.lines
 

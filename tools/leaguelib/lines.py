@@ -10,6 +10,7 @@ from __future__ import annotations
 from dataclasses import replace
 from typing import TYPE_CHECKING
 
+from .cups import begins_a_cup
 from .line_names import comment_lines
 from .records import lines_of, record_of
 from .texts import MOST_LINES
@@ -24,12 +25,14 @@ def line_runs(lines: list[int], most: int = MOST_LINES) -> list[list[int]]:
 
 
 def with_lines_of(data: bytes, lines: list[int]) -> bytes:
-    """The input with these lines in place of its own.
+    """The input with these lines in place of its own; that of a cup stays as it is.
 
     Each stands where a `line` record or a comment `# line K` stood, and what is left over becomes a
     comment, so that every other line keeps its number. Only what finds no place there is put in
     front of `season`.
     """
+    if begins_a_cup(data):
+        return data
     comments = {number for number, _ in comment_lines(data)}
     waiting = list(lines)
     written: list[bytes] = []

@@ -8,12 +8,13 @@ from __future__ import annotations
 import argparse
 
 from . import common
-from .cleaning import KINDS
+from .cleaning import KINDS, cleaned_steps
 from .doubts import Doubt, feed_doubts, sheet_doubts
 from .feeds import Input, InputReader, read_input
 from .files import examine, joined
 from .findings import Finding, Outcome, capital, outcome_text
-from .records import Record, Refused, count_lines, lines_of, record_of
+from .modes import GROUPS
+from .records import Record, Refused, count_lines, lines_of, record_of, records_of
 from .refusals import Advice, advise
 from .repairs import FEED_KINDS
 from .saved import SAVED_KINDS, without_saved
@@ -21,6 +22,10 @@ from .saved_lines import first_bad_line
 from .texts import Entry
 from .words import SAVED_WORDS, words_for
 
+MODES = ("verdicts", "decide", "whatif", "table", "scores", "check", "decide_check", "save",
+         "resume", GROUPS)
+CHECKS = ("check", "decide_check")
+FIRST_CODES = ("no_league", "no_cup")
 MOST_SHOWN = 30
 MOST_REFUSED = 10_000
 
@@ -31,10 +36,8 @@ def add_arguments(parser: argparse.ArgumentParser) -> None:
     parser.add_argument("--quiet", action="store_true", help="say nothing if nothing is wrong")
     parser.add_argument("--sheet-only", action="store_true",
                         help="the files hold a sheet alone: expect no feed")
-    parser.add_argument("--mode", default="verdicts",
-                        choices=("verdicts", "decide", "whatif", "table", "scores", "check",
-                                 "decide_check", "save", "resume"),
-                        help="the mode in which futmax is to be run (verdicts)")
+    parser.add_argument("--mode", choices=MODES,
+                        help="the mode in which futmax is to be run (verdicts; groups for a cup)")
 
 
 def run(arguments: argparse.Namespace) -> int:
@@ -48,7 +51,7 @@ def run(arguments: argparse.Namespace) -> int:
 
 
 def looked_at(files: list[tuple[str, bytes]], is_sheet_only: bool = False,
-              mode: str = "verdicts") -> tuple[str, int]:
+              mode: str | None = None) -> tuple[str, int]:
     """What there is to say about the files in a mode of the program, and the exit status."""
     examined = [(name, examine(data)) for name, data in files]
     texts = [f"{name}: {capital(message)}.\n"
@@ -65,13 +68,34 @@ def looked_at(files: list[tuple[str, bytes]], is_sheet_only: bool = False,
     return text, common.TO_MEND if texts else outcome.status
 
 
-def look(data: bytes, is_sheet_only: bool = False, mode: str = "verdicts") -> Outcome:
+def mode_for(data: bytes, mode: str | None) -> str:
+    """The mode, or where none is told the one that answers such a sheet."""
+    if mode is not None:
+        return mode
+    is_cup = _meant_kind(data) == "cup" or (
+        first_line(data, "cup") > 0 and first_line(data, "league") == 0)
+    return GROUPS if is_cup else "verdicts"
+
+
+def _meant_kind(data: bytes) -> str:
+    """What the first field of the first record was meant to be; nothing if there is none."""
+    try:
+        first = next(records_of(data), None)
+    except Refused:
+        return ""
+    fields = cleaned_steps(first.raw)[-1].fields if first is not None else []
+    return fields[0] if fields else ""
+
+
+def look(data: bytes, is_sheet_only: bool = False, mode: str | None = None) -> Outcome:
     """Looks at a whole input in UTF-8; in the mode `check` the report after `proofs` is not."""
-    takes_proofs = mode in ("check", "decide_check")
-    outcome = Outcome(refused=refusal_of(data, mode), league_line=_league_line(data))
+    mode = mode_for(data, mode)
+    takes_proofs, is_cup = mode in CHECKS, mode == GROUPS
+    outcome = Outcome(refused=refusal_of(data, mode),
+                      league_line=first_line(data, "cup" if is_cup else "league"))
     if mode == "resume":
         data = without_saved(data)
-    reader = InputReader(takes_proofs, mode == "whatif")
+    reader = InputReader(takes_proofs, mode == "whatif", is_cup)
     entries: list[Entry] = []
     try:
         for number, raw in lines_of(data):
@@ -95,23 +119,25 @@ def look(data: bytes, is_sheet_only: bool = False, mode: str = "verdicts") -> Ou
             outcome.doubts.extend(feed_doubts(reader.sheet, entries, question))
             if takes_proofs and not any(entry.kind == "proofs" for entry in entries):
                 outcome.doubts.append(Doubt(0, "the input has no `proofs`; the report for the "
-                                               "mode `check` comes after it"))
+                                               f"mode `{mode}` comes after it"))
     if outcome.refused is not None and outcome.refused.code == "bad_save":
         outcome.findings.append(Finding(outcome.refused.line,
                                         capital(words_for(outcome.refused, [], None)) + "."))
     return outcome
 
 
-def _league_line(data: bytes) -> int:
-    """The line of the first `league` record; 0 if none stands in the input."""
-    place = 0 if data.startswith(b"league,") else data.find(b"\nleague,") + 1
-    return data.count(b"\n", 0, place) + 1 if place or data.startswith(b"league,") else 0
+def first_line(data: bytes, kind: str) -> int:
+    """The first line that begins as a `league` or a `cup` record does; 0 if none does."""
+    word = kind.encode("ascii") + b","
+    place = 0 if data.startswith(word) else data.find(b"\n" + word) + 1
+    return data.count(b"\n", 0, place) + 1 if place or data.startswith(word) else 0
 
 
-def refusal_of(data: bytes, mode: str = "verdicts") -> Refused | None:
+def refusal_of(data: bytes, mode: str | None = None) -> Refused | None:
     """The line at which the program stops in a mode, if it does."""
+    mode = mode_for(data, mode)
     try:
-        league = read_input(data, mode in ("check", "decide_check", "resume"), mode == "whatif")
+        league = read_input(data, mode in (*CHECKS, "resume"), mode == "whatif", mode == GROUPS)
         if mode == "resume":
             bad = _bad_save(league, data)
             if bad:
@@ -135,7 +161,7 @@ def _take(record: Record, reader: InputReader, outcome: Outcome) -> list[Entry]:
         entry = reader.take(record)
         return [] if entry is None else [entry]
     except Refused as refused:
-        is_known = refused.code == "no_league" and outcome.is_league_missed
+        is_known = refused.code in FIRST_CODES and outcome.is_league_missed
         if is_known or len(outcome.findings) >= MOST_SHOWN:
             outcome.more += 1
             return []
@@ -145,14 +171,17 @@ def _take(record: Record, reader: InputReader, outcome: Outcome) -> list[Entry]:
 def _note(record: Record, refused: Refused, reader: InputReader, outcome: Outcome) -> list[Entry]:
     """Notes a refused record, and gives the reader what was meant."""
     advice = None
-    if refused.code == "no_league":
-        advice = _advice_on_first(record, outcome.league_line)
+    if refused.code in FIRST_CODES:
+        advice = _advice_on_first(record, refused.code, outcome.league_line)
     if advice is None:
         advice = advise(record, refused, reader)
-    if refused.code == "no_league" and not advice.instead:
+    if refused.code in FIRST_CODES and not advice.instead:
         outcome.is_league_missed = True
     outcome.findings.append(Finding(record.line, advice.message, _written(record.raw),
                                     advice.instead, advice.is_dropped, refused.field))
+    if refused.code == "quota_range":
+        reader.end_sheet()
+        return []
     if refused.code == "unknown_record" and record.kind == "club" and not reader.feed_reader:
         _take_late_club(record, reader)
         return []
@@ -164,8 +193,14 @@ def _note(record: Record, refused: Refused, reader: InputReader, outcome: Outcom
     return entries
 
 
-def _advice_on_first(record: Record, league_line: int) -> Advice | None:
-    """Advice on a first record that is no `league`, where the line alone does not tell it."""
+def _advice_on_first(record: Record, code: str, league_line: int) -> Advice | None:
+    """Advice on a first record that begins no such sheet, where the line alone does not tell it.
+    """
+    word = "cup" if code == "no_cup" else "league"
+    if record.kind in ("cup", "league"):
+        mode = "groups" if record.kind == "cup" else "verdicts"
+        return Advice(f"This is the sheet of a {record.kind}, which another mode answers: "
+                      f"`futmax {mode}`; `league ask` takes the one that fits.")
     if record.kind in SAVED_KINDS:
         return Advice(capital(SAVED_WORDS) + ".")
     if _is_header(record):
@@ -175,7 +210,7 @@ def _advice_on_first(record: Record, league_line: int) -> Advice | None:
         return Advice("This is a line of a feed, and the sheet comes after it: put the sheet "
                       "first, as in `league lint SHEET FEED`.")
     if league_line and record.kind in KINDS:
-        return Advice("The first record must be `league`, and it comes further down, in line "
+        return Advice(f"The first record must be `{word}`, and it comes further down, in line "
                       f"{league_line}: move it to the top.")
     if record.kind in FEED_KINDS:
         return Advice("This is a line of a feed, and the sheet is missing before it: `league lint "

@@ -46,6 +46,13 @@ def match_of(fixture: Fixture) -> str:
     return f"{name_of(fixture.home)} – {name_of(fixture.away)}"
 
 
+def table_of(board: Board, verdict: Verdict) -> str:
+    """Where the table stands in which a mark is: of a cup that of the club's group."""
+    sheet = board.sheet
+    return f"table-{sheet.groups.index(sheet.group_of(verdict.club)) + 1}" if sheet.is_cup else (
+        "table")
+
+
 def anchor(board: Board, verdict: Verdict) -> str:
     """Where the reasons of a mark stand."""
     return f"why-{verdict.places}-{board.sheet.club_named(verdict.club).number}"

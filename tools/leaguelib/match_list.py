@@ -2,12 +2,17 @@
 
 from __future__ import annotations
 
+import re
 from collections import Counter
 from dataclasses import dataclass, field
 
 from .common import Trouble
 from .names import shown
 
+GROUP_HEAD = re.compile(r"(?:group|gruppe|grupo|gruppo|groupe|girone|poule)\s+([^\s:|]+)",
+                        re.IGNORECASE)
+MATCHDAY = re.compile(r"(?:matchday|round|spieltag|jornada|giornata|journée|week|day)\s+\d",
+                      re.IGNORECASE)
 MOST_QUOTED = 3
 MOST_WRONG = 10
 MOST_SHOWN = 120
@@ -54,7 +59,8 @@ class MatchList:
 
     `notes` are what looks odd, `passed` what was passed over and holds nothing that counts. Where
     it `is_cross`, each pair stands in it twice, however often they meet. `divisions` has the clubs
-    of each value of a column like `Div`, by its head.
+    of each value of a column like `Div`, by its head; `groups` the group of each club, where a
+    column or headings name it.
     """
 
     matches: list[Match] = field(default_factory=list)
@@ -64,10 +70,22 @@ class MatchList:
     file: str = ""
     is_cross: bool = False
     divisions: dict[str, dict[str, set[str]]] = field(default_factory=dict)
+    groups: dict[str, str] = field(default_factory=dict)
 
     def note_division(self, head: str, value: str, clubs: set[str]) -> None:
         """Notes that these clubs play in a division that a column with this head names."""
         self.divisions.setdefault(head, {}).setdefault(value, set()).update(clubs)
+
+    def note_groups(self) -> None:
+        """Notes the groups that headings like `Group A` name, of the matches below them."""
+        heads = sorted((one.line, one.text) for one in self.passed if one.why == "heading")
+        for match in self.matches:
+            above = [text for line, text in heads if line < match.line
+                     and not MATCHDAY.match(text.strip(" \t|=▪»"))]
+            found = GROUP_HEAD.match(above[-1].strip(" \t|=▪»")) if above else None
+            if found:
+                for club in (match.home, match.away):
+                    self.groups.setdefault(club, found.group(1))
 
     def test_divisions(self) -> None:
         """Raises `Trouble` if a column names several divisions that share no club."""

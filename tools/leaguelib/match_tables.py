@@ -10,7 +10,7 @@ from dataclasses import dataclass
 
 from .common import Trouble
 from .dates import TIME, is_date, plain_date
-from .heads import DIVISIONS, Columns, columns_of, is_head_row, missing_side, plain_head
+from .heads import DIVISIONS, GROUPS, Columns, columns_of, is_head_row, missing_side, plain_head
 from .match_list import Match, MatchList, Passed, Wrong, quoted
 from .match_lines import match_of_line, note_told, why_no_name
 from .score_texts import Told, read_goals, read_score
@@ -67,6 +67,7 @@ class TableReader:
         self.columns = Columns()
         self.heads: list[str] = []
         self.divisions: list[int] = []
+        self.group = -1
         self.loose: dict[int, tuple[int, str]] = {}
         self.goals: dict[int, tuple[int, str]] = {}
         self.others: set[int] = set()
@@ -78,6 +79,8 @@ class TableReader:
             self.columns, self.heads = columns_of(cells), cells
             self.divisions = [place for place, head in enumerate(cells)
                               if plain_head(head) in DIVISIONS]
+            self.group = next((place for place, head in enumerate(cells)
+                               if plain_head(head) in GROUPS), -1)
             return
         filled = [cell for cell in cells if cell.strip("-:= ")]
         if not filled or line.startswith("#"):
@@ -102,6 +105,9 @@ class TableReader:
         for place in self.divisions:
             if cell(place):
                 self.found.note_division(self.heads[place], cell(place), set(names))
+        if cell(self.group):
+            group = re.sub(r"^\w+\s+(?=\S+$)", "", cell(self.group))
+            self.found.groups.update({name: group for name in names})
         note_told(self.found, told, number, line)
         self.found.add(Match(names[0], names[1], told.score,
                              plain_date(cell(self.columns.date), self.is_month_first), number,

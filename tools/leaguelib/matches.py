@@ -60,6 +60,7 @@ def read_matches(data: bytes, file: str = "", needs_scores: bool = False) -> Mat
     notes: list[str] = []
     text = text_of(data, notes)
     found = read_text(text, file, needs_scores)
+    found.note_groups()
     front = f"{file}: " if file else ""
     found.notes = [front + note for note in notes] + found.notes
     return found
@@ -69,7 +70,7 @@ def read_text(text: str, file: str, needs_scores: bool = False) -> MatchList:
     """The matches of a list as text."""
     lines = lines_in(text)
     _test_form(text, file)
-    if any(line.startswith("league,") for line in lines[:50]):
+    if any(line.startswith(("league,", "cup,")) for line in lines[:50]):
         where = f"{file}: " if file else ""
         raise Trouble(f"{where}this is a sheet already, and no list of matches: `league lint` "
                       "looks at it")
@@ -105,4 +106,5 @@ def renamed(found: MatchList, meant: dict[str, str]) -> MatchList:
     """The list with other names in place of some of its own."""
     found.matches = [replace(match, home=meant.get(match.home, match.home),
                              away=meant.get(match.away, match.away)) for match in found.matches]
+    found.groups = {meant.get(name, name): group for name, group in found.groups.items()}
     return found

@@ -1,5 +1,6 @@
 """The modes of futmax that are asked for verdicts and to check a report: `decide` and
-`decide_check`, or the older `verdicts` and `check` where a program has not these.
+`decide_check`, or the older `verdicts` and `check` where a program has not these; of cups `groups`,
+whose reports no mode checks.
 """
 
 from __future__ import annotations
@@ -10,16 +11,21 @@ from .running import run_program
 
 DECIDE, DECIDE_CHECK = "decide", "decide_check"
 OLDER = {DECIDE: "verdicts", DECIDE_CHECK: "check"}
+GROUPS = "groups"
+OF_CUPS = {DECIDE: GROUPS, "verdicts": GROUPS}
+ONE_THREAD = (DECIDE, DECIDE_CHECK, GROUPS)
 
 
-def known_mode(path: str, mode: str) -> str:
-    """The mode, or the older one in its place where the program does not know it."""
+def known_mode(path: str, mode: str, is_cup: bool = False) -> str:
+    """The mode, or the one in its place: of a cup, or where the program does not know it."""
+    if is_cup:
+        return OF_CUPS.get(mode, mode)
     return OLDER[mode] if mode in OLDER and not _has_decide(path) else mode
 
 
 def mode_words(mode: str, *words: str, workers: int = 1) -> list[str]:
     """The words that run a mode; by one thread the same input has the same answer."""
-    threads = () if mode in OLDER else ("--workers", str(workers))
+    threads = () if mode in ONE_THREAD else ("--workers", str(workers))
     return [mode, *threads, *words]
 
 

@@ -44,11 +44,17 @@ class Live:
 
     def _session(self, arguments: argparse.Namespace, sheet: bytes) -> Session:
         """The program as it is to be run."""
-        mode, proofs = known_mode(self.asker.path, arguments.mode), ["--proofs"] * arguments.proofs
+        is_cup = self.book.sheet.is_cup
+        if is_cup and arguments.mode in ("table", "scores"):
+            raise common.Trouble(f"{arguments.sheet} is the sheet of a cup, and --mode "
+                                 f"{arguments.mode} is for leagues", common.BAD_WORDS)
+        mode = known_mode(self.asker.path, arguments.mode, is_cup)
+        proofs = ["--proofs"] * arguments.proofs
         words = mode_words(mode, *proofs, workers=arguments.workers)
         clubs, lines = len(self.book.sheet.clubs), len(self.book.sheet.lines)
+        sizes = tuple(len(group.clubs) for group in self.book.sheet.groups) if is_cup else ()
         return Session([self.asker.path, *words], sheet,
-                       lambda: AnswerEnd(clubs, lines, mode, arguments.proofs))
+                       lambda: AnswerEnd(clubs, lines, mode, arguments.proofs, sizes))
 
     def begin(self) -> None:
         """Starts the program with the events of the log; its asks are not answered again."""
@@ -235,6 +241,7 @@ class Live:
 
     def _tonight(self) -> None:
         """What each of the next matches can decide by itself."""
+        self._refuse_cup()
         sheet, season = self.book.sheet, self.book.feed.season
         fixtures = next_matches(sheet, season, days_of(self.asker.data, sheet))
         if not fixtures:
@@ -244,6 +251,7 @@ class Live:
 
     def _when(self, fixture: Fixture) -> None:
         """What one match can decide, in words or as futmax's rows; the log does not keep it."""
+        self._refuse_cup()
         if not isinstance(self.voice, Rows):
             self._tell_outlook([fixture])
             return
@@ -254,6 +262,11 @@ class Live:
         report_of(run)
         events = events_text(self.book.feed.season.events)
         self.voice.answer([run.output], f"end of answer {self.answers}, after {events}")
+
+    def _refuse_cup(self) -> None:
+        """Raises `Unclear` in a cup: what a match decides is told of leagues alone."""
+        if self.book.sheet.is_cup:
+            raise Unclear("what a match can decide is told of leagues, and this is a cup")
 
     def _tell_outlook(self, fixtures: list[Fixture]) -> None:
         """What each outcome of these matches decides."""

@@ -8,15 +8,18 @@ from __future__ import annotations
 
 import base64
 import hashlib
+from dataclasses import dataclass
 from html import escape
 from pathlib import Path
 from typing import TYPE_CHECKING
 
 from .answers import Place, Verdict
 from .changes import clubs_by_word, words_of
+from .cup_screen import places_of, quota_text, ranking_title
 from .marks import EMPTY_CELL, MEANINGS, SIGNS, anchor, name_of, names_of, safe
 from .page_news import news, next_parts, open_matches
 from .page_reasons import reasons
+from .runners import of_group, runners_up
 from .wording import counted, limit_phrase, rules_phrase
 
 if TYPE_CHECKING:
@@ -24,6 +27,20 @@ if TYPE_CHECKING:
 
 FEW = 6
 MANY_LINES = 4
+CUT = ' class="cut"'
+
+
+@dataclass(frozen=True)
+class Part:
+    """A table of the page: where it stands, what it is called, its rows, and after which of them a
+    line is drawn.
+    """
+
+    id: str
+    label: str
+    caption: str
+    table: list[Place]
+    cuts: list[int]
 
 
 def page_text(board: Board) -> str:
@@ -40,7 +57,7 @@ def page_text(board: Board) -> str:
         f"<title>{safe(board.sheet.name)}</title>",
         f"<style>{style}</style>", "</head>", "<body>", "<main>",
         f"<h1>{name_of(board.sheet.name)}</h1>",
-        *_state(board), *_races(board), *_table(board), *_legend(board), *news(board),
+        *_state(board), *_races(board), *_tables(board), *_legend(board), *news(board),
         *next_parts(board), *open_matches(board), *reasons(board),
         "</main>", f"<script>{script}</script>", "</body>", "</html>"]
     return "\n".join(parts) + "\n"
@@ -56,6 +73,8 @@ def _state(board: Board) -> list[str]:
     still = len(board.season.open_fixtures(board.sheet))
     played = counted(len(board.season.scores), "match", "matches")
     rules = safe(rules_phrase(board.sheet, board.season))
+    if board.sheet.is_cup:
+        rules = f"{quota_text(board.sheet)} {rules}"
     return [f"<p>{played} played{board.last_text()}; {still or 'none'} open. {rules} "
             f'<span class="quiet">Page of {safe(board.made)}.</span></p>',
             *([f"<p>{safe(board.note)}</p>"] if board.note else [])]
@@ -89,8 +108,45 @@ def _clubs(clubs: list[str], points: dict[str, int]) -> str:
                      for club in sorted(clubs, key=order.index)])
 
 
-def _table(board: Board) -> list[str]:
-    """The table of the matches played, with a mark a line and club."""
+def _tables(board: Board) -> list[str]:
+    """The table of the matches played; of a cup one a group, and the ranking of the runners-up."""
+    if not board.sheet.is_cup:
+        caption = "The table of the matches played."
+        return _table(board, Part("table", "Table", caption, board.table, board.lines))
+    texts = []
+    for number, group in enumerate(board.sheet.groups, 1):
+        part = Part(f"table-{number}", group.title, f"{group.title}.",
+                    of_group(board.table, group), [1])
+        texts += _table(board, part)
+    return texts + _ranking(board)
+
+
+def _ranking(board: Board) -> list[str]:
+    """The runners-up of a cup as it stands, with their marks."""
+    cup = board.sheet
+    rows = []
+    for at, one in enumerate(runners_up(cup, board.season, board.table), 1):
+        cells = [f"<td>{places_of(one)}</td>",
+                 f'<th scope="row" class="club">{name_of(one.club)}</th>',
+                 f"<td>{name_of(one.group.name)}</td>", f"<td>{one.key[0]}</td>",
+                 f'<td class="more">{_signed(one.key[1])}</td>',
+                 f'<td class="extra">{one.key[2]}</td>',
+                 _mark(board, board.verdicts.get((cup.quota, one.club)))]
+        rows += [f"<tr{CUT if at == cup.quota else ''}>", *cells, "</tr>"]
+    heads = [f'<th scope="col">{_short("Place", "#")}</th>',
+             '<th scope="col" class="club">Runner-up</th>', '<th scope="col">Group</th>',
+             f'<th scope="col">{_short("Points", "Pts")}</th>',
+             '<th scope="col" class="more">Difference</th>',
+             '<th scope="col" class="extra">Goals</th>',
+             f'<th scope="col" class="mark">{_head(board, cup.quota)}</th>']
+    return ['<div class="scroll" id="runners-up" tabindex="0" role="region" '
+            'aria-label="Runners-up">', '<table class="few">',
+            f"<caption>{ranking_title(cup)}.</caption>", "<thead>", "<tr>", *heads, "</tr>",
+            "</thead>", "<tbody>", *rows, "</tbody>", "</table>", "</div>"]
+
+
+def _table(board: Board, part: Part) -> list[str]:
+    """One table, with a mark a line and club."""
     lines = board.lines if board.verdicts else []
     heads = [f'<th scope="col">{_short("Place", "#")}</th>',
              '<th scope="col" class="club">Club</th>', '<th scope="col" class="extra">Played</th>',
@@ -99,13 +155,13 @@ def _table(board: Board) -> list[str]:
              '<th scope="col" class="extra">Goals</th>']
     heads += [f'<th scope="col" class="mark">{_head(board, places)}</th>' for places in lines]
     size = "many" if len(lines) > MANY_LINES else "few"
-    return ['<div class="scroll" id="table" tabindex="0" role="region" aria-label="Table">',
-            f'<table class="{size}">',
-            "<caption>The table of the matches played."
+    return [f'<div class="scroll" id="{part.id}" tabindex="0" role="region" '
+            f'aria-label="{safe(part.label)}">', f'<table class="{size}">',
+            f"<caption>{safe(part.caption)}"
             f"{' A mark leads to its reasons.' if lines else ''}</caption>",
             "<thead>", "<tr>", *heads, "</tr>", "</thead>", "<tbody>",
-            *[row for position, place in enumerate(board.table, 1)
-              for row in _row(board, position, place, lines)],
+            *[row for position, place in enumerate(part.table, 1)
+              for row in _row(board, place, lines, position in part.cuts)],
             "</tbody>", "</table>", "</div>"]
 
 
@@ -116,14 +172,16 @@ def _short(word: str, short: str) -> str:
 
 def _head(board: Board, places: int) -> str:
     """The head of a line's column: its name, if it has one, and its places."""
+    if board.sheet.is_cup:
+        return '<span class="count">Qualifies</span>'
     name = board.names.inside.get(places)
     text = f'<span class="count">{"First" if places == 1 else f"Top {places}"}</span>'
     return f'<span class="name">{name_of(name)}</span> {text}' if name else text
 
 
-def _row(board: Board, position: int, place: Place, lines: list[int]) -> list[str]:
+def _row(board: Board, place: Place, lines: list[int], is_cut: bool) -> list[str]:
     """One club of the table."""
-    cut = ' class="cut"' if position in board.lines else ""
+    cut = CUT if is_cut else ""
     shown_place = str(place.best) if place.best == place.worst else f"{place.best}–{place.worst}"
     cells = [f"<td>{shown_place}</td>", f'<th scope="row" class="club">{name_of(place.club)}</th>',
              f'<td class="extra">{place.played}</td>', f"<td>{place.points}</td>",

@@ -5,9 +5,9 @@ from __future__ import annotations
 from typing import TYPE_CHECKING
 
 from .answers import Verdict
-from .marks import anchor, name_of, safe
+from .marks import anchor, name_of, safe, table_of
 from .sentences import USUAL_STEPS, decided_text, proof_steps, unsettled_texts
-from .wording import counted, limit_phrase, lots_phrase, score_text
+from .wording import limit_phrase, lots_phrase, score_text
 
 if TYPE_CHECKING:
     from .board import Board
@@ -25,13 +25,16 @@ def reasons(board: Board) -> list[str]:
                  f"{verdict.word}")
         parts += [f'<section id="{anchor(board, verdict)}" tabindex="-1">', f"<h3>{title}</h3>",
                   *_reason(board, verdict),
-                  '<p><a class="back" href="#table">Back to the table</a></p>', "</section>"]
+                  f'<p><a class="back" href="#{table_of(board, verdict)}">'
+                  "Back to the table</a></p>", "</section>"]
     return [*parts, "</div>"]
 
 
 def _reason(board: Board, verdict: Verdict) -> list[str]:
     """What stands after a mark: a sentence and a proof, or finishes."""
     mark = (verdict.places, verdict.club)
+    if mark in board.told:
+        return [f"<p>{safe(text)}</p>" for text in board.told[mark]]
     if verdict.word in ("clinched", "lost"):
         return _decided(board, verdict)
     if verdict.word == "unsettled":

@@ -1,12 +1,13 @@
-"""Reports with proofs, and whether the program's own check accepts them."""
+"""Reports with proofs, and whether the program's own check accepts them; it checks none of cups."""
 
 from __future__ import annotations
 
 from dataclasses import dataclass
 
 from . import common
-from .answers import Report
+from .answers import Answer, Report, Verdict
 from .asking import run_mode
+from .cups import begins_a_cup
 from .feeds import Input
 from .modes import DECIDE, DECIDE_CHECK
 from .running import report_of
@@ -18,12 +19,12 @@ class Told:
 
     league: Input
     report: Report
-    is_checked: bool
+    is_told: bool
     note: str = ""
 
 
 def own_report(program: str | None, data: bytes, league: Input) -> Told:
-    """The program's own answer, with proofs where it can write and check them."""
+    """The program's own answer, with proofs where it can write and check them; a cup's as it is."""
     path = common.program_path(program)
     written = run_mode(path, DECIDE, data, "--proofs")
     if written.status == 1:
@@ -32,11 +33,21 @@ def own_report(program: str | None, data: bytes, league: Input) -> Told:
     found = refusal_of_report(path, data, written.output)
     note = "" if found in ("accepted", "unknown") else (
         f"The program's own check refuses its proofs: {found}. They are left out.")
-    return Told(league, report, found == "accepted", note)
+    return Told(league, report, found == "accepted" or league.sheet.is_cup, note)
+
+
+def proved_row(answer: Answer, verdict: Verdict) -> Verdict | None:
+    """The same row of an answer with its proof, if it has one."""
+    wanted = (verdict.places, verdict.club, verdict.word)
+    found = next((it for it in answer.verdicts if (it.places, it.club, it.word) == wanted), None)
+    has_proof = found is not None and bool(found.proofs or found.refutations)
+    return found if has_proof else None
 
 
 def refusal_of_report(path: str, front: bytes, report: bytes) -> str:
-    """`accepted`, `unknown` where there is no mode `check`, or why the report is refused."""
+    """`accepted`, `unknown` where no mode checks it, or why the report is refused."""
+    if begins_a_cup(front):
+        return "unknown"
     ended = front if front.endswith(b"\n") or not front else front + b"\n"
     done = run_mode(path, DECIDE_CHECK, ended + b"proofs\n" + report)
     rows = [row.split(b",") for row in done.output.splitlines()]

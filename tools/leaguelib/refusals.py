@@ -11,9 +11,11 @@ from typing import Iterator
 
 from . import feed_repairs, repairs
 from .cleaning import KINDS, Cleaned, cleaned_steps
+from .cup_words import EXAMPLE, cup_repairs, group_missing, group_repairs
 from .feeds import InputReader
 from .records import Record, Refused, fields_of, record_of
 from .repairs import FEED_KINDS, Candidate, line_text
+from .texts import Sheet
 from .words import words_for
 
 
@@ -70,9 +72,15 @@ def candidates(fields: list[str], reader: InputReader) -> Iterator[Candidate]:
     yield from _glued(line_text(*fields))
     kind, sheet, feed = fields[0], reader.sheet, reader.feed_reader
     if sheet is None:
-        if kind == "league":
+        if kind == "league" and not reader.is_cup:
             yield from repairs.league_repairs(fields)
-        elif kind in KINDS:
+        elif kind == "cup" and reader.is_cup is not False:
+            yield from cup_repairs(fields)
+        elif reader.is_cup and kind in KINDS and kind != "league":
+            yield Candidate("the first record has to be `cup`, with the name of the cup, goal "
+                            "limit, budget and the number of runners-up that qualify",
+                            [EXAMPLE, line_text(*fields)])
+        elif kind in KINDS and kind not in ("cup", "league"):
             yield Candidate("the first record has to be `league`, with the name of the league and "
                             "the goal limit", ["league,My league,9", line_text(*fields)])
         return
@@ -80,12 +88,7 @@ def candidates(fields: list[str], reader: InputReader) -> Iterator[Candidate]:
         if kind in FEED_KINDS:
             yield Candidate("`season` must come between the sheet and the first line of the feed",
                             ["season", line_text(*fields)], is_split=True)
-        makers = {"club": repairs.club_repairs, "match": repairs.match_repairs,
-                  "line": repairs.line_repairs}
-        if kind in makers:
-            yield from makers[kind](fields, sheet)
-        elif kind == "season":
-            yield from repairs.season_repairs()
+        yield from _sheet_repairs(fields, sheet)
         return
     if kind in ("result", "fix"):
         yield from feed_repairs.score_repairs(fields, sheet, feed.season)
@@ -97,6 +100,26 @@ def candidates(fields: list[str], reader: InputReader) -> Iterator[Candidate]:
         yield from feed_repairs.ask_repairs()
     elif kind == "when" and feed.takes_whens:
         yield from feed_repairs.when_repairs(fields, sheet, feed.season)
+
+
+def _sheet_repairs(fields: list[str], sheet: Sheet) -> Iterator[Candidate]:
+    """What a record after the first one of a sheet was meant to be."""
+    kind = fields[0]
+    if sheet.is_cup:
+        yield from group_missing(fields, sheet)
+    if kind == "club":
+        yield from repairs.club_repairs(fields, sheet)
+    elif kind == "match":
+        # a match of a cup is of the group begun last
+        held = sheet.groups[-1:] if sheet.is_cup else [sheet]
+        for one in held:
+            yield from repairs.match_repairs(fields, one)
+    elif kind == "line" and not sheet.is_cup:
+        yield from repairs.line_repairs(fields, sheet)
+    elif kind == "group" and sheet.is_cup:
+        yield from group_repairs(fields)
+    elif kind == "season":
+        yield from repairs.season_repairs()
 
 
 def _comment(fields: list[str]) -> Iterator[Candidate]:

@@ -79,7 +79,7 @@ def league_repairs(fields: list[str]) -> Iterator[Candidate]:
         yield Candidate("the name comes first, then the goal limit",
                         [line_text("league", fields[2], fields[1], *fields[3:])])
     if len(fields) > 3 and number_of(fields[2]) is None:
-        yield from _name_with_comma(fields)
+        yield from name_with_comma(fields)
     if len(fields) > 2 and number_of(fields[2]) is not None:
         yield Candidate("the goal limit is 1 to 20, and 9 fits most leagues",
                         [line_text(*fields[:2], 9, *fields[3:])])
@@ -88,7 +88,7 @@ def league_repairs(fields: list[str]) -> Iterator[Candidate]:
                         [line_text(*fields[:3], USUAL_BUDGET, *fields[4:])])
 
 
-def _name_with_comma(fields: list[str]) -> Iterator[Candidate]:
+def name_with_comma(fields: list[str]) -> Iterator[Candidate]:
     """A name that holds a comma and does not stand in quotes."""
     for end in range(3, len(fields)):
         if number_of(fields[end]) is not None:
@@ -115,7 +115,7 @@ def club_repairs(fields: list[str], sheet: Sheet) -> Iterator[Candidate]:
     if len(fields) == 3 and number_of(fields[1]) and number_of(fields[2]) is None:
         yield Candidate("the name comes first, then the rank",
                         [line_text("club", fields[2], fields[1])])
-    yield from _name_with_comma(fields)
+    yield from name_with_comma(fields)
     if len(fields) > 1 and len(fields[1].encode("utf-8", "replace")) > 40:
         short = fields[1].encode("utf-8", "replace")[:40].decode("utf-8", "ignore").strip()
         yield Candidate("a name has at most 40 bytes (accents and other scripts take two or more "

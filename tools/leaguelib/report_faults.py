@@ -16,7 +16,7 @@ MAKE = "`futmax verdicts --proofs` on sheet and feed makes one"
 def kind_of(data: bytes) -> str:
     """What a file looks like by its first record: sheet, feed, report, saved text, or none."""
     for fields in _rows(data):
-        if fields[0] == "league":
+        if fields[0] in ("league", "cup"):
             return "sheet"
         if fields[0] in FEED_KINDS or fields == ["ask"]:
             return "feed"

@@ -8,6 +8,8 @@ from typing import Dict
 
 from .answers import Place, Verdict
 from .changes import SHORT
+from .cup_screen import by_groups, quota_text, ranking_rows, ranking_title
+from .cups import Cup
 from .line_names import LineNames
 from .objects import to_come
 from .texts import Season, Sheet
@@ -23,7 +25,8 @@ def state_text(sheet: Sheet, season: Season, place: str) -> str:
     played, still = len(season.scores), len(season.open_fixtures(sheet))
     done = f"{counted(played, 'match', 'matches')} played, {still} open" if still else (
         f"all {counted(played, 'match', 'matches')} played")
-    return paragraph(f"{shown(sheet.name)}, {place}: {done}. {rules_phrase(sheet, season)}")
+    quota = f"{quota_text(sheet)} " if sheet.is_cup else ""
+    return paragraph(f"{shown(sheet.name)}, {place}: {done}. {quota}{rules_phrase(sheet, season)}")
 
 
 def limit_text(sheet: Sheet, season: Season) -> str:
@@ -83,16 +86,24 @@ def table_text(sheet: Sheet, season: Season, table: list[Place], marks: Marks,
              str(to_come(sheet, season, place.club)), f"{place.difference:+d}"]
             + [words.get(place.club, "") for words in marks.values()] for place in table]
     heads = [_head(places, names) for places in marks]
-    texts = _columns([HEADS + heads, *rows])
-    if max(map(len, texts)) <= WIDTH:
-        return texts
-    return _columns([HEADS + [_head(places, None) for places in marks], *rows])
+    texts = columns([HEADS + heads, *rows])
+    if max(map(len, texts)) > WIDTH and not sheet.is_cup:
+        texts = columns([HEADS + [_head(places, None) for places in marks], *rows])
+    return _cup_texts(sheet, season, table, marks, texts) if sheet.is_cup else texts
 
 
-def _columns(rows: list[list[str]]) -> list[str]:
+def _cup_texts(cup: Cup, season: Season, table: list[Place], marks: Marks,
+               texts: list[str]) -> list[str]:
+    """The rows of a cup group by group, and the ranking of the runners-up after them."""
+    ranking = ranking_rows(cup, season, table, marks.get(cup.quota, {}))
+    return [*by_groups(cup, table, texts), "", ranking_title(cup),
+            *columns(ranking, (2,))]
+
+
+def columns(rows: list[list[str]], left: tuple[int, ...] = ()) -> list[str]:
     """Rows in columns: numbers to the right, names and words to the left."""
     widths = [max(len(row[at]) for row in rows) for at in range(len(rows[0]))]
-    is_left = [at == 1 or at >= len(HEADS) for at in range(len(widths))]
+    is_left = [at in left or at == 1 or at >= len(HEADS) for at in range(len(widths))]
     return ["  ".join(text.ljust(width) if left else text.rjust(width)
                       for text, width, left in zip(row, widths, is_left)).rstrip() for row in rows]
 
@@ -104,6 +115,8 @@ def _places(place: Place) -> str:
 
 def _head(places: int, names: LineNames | None) -> str:
     """The head of a line's column."""
+    if names is not None and names.is_cup:
+        return "qualifies"
     if names is not None and places in names.inside:
         return shown(names.inside[places])
     return "first" if places == 1 else f"top {places}"

@@ -66,14 +66,14 @@ def unsettled_texts(sheet: Sheet, verdict: Verdict, budget: int | None = None) -
             parts.append(paragraph(f"It can {verb} it, for example, if {way}. What is not known is "
                                    f"whether it {other}, with at most "
                                    f"{counted(sheet.goal_limit, 'goal')} a side.", 4))
-    parts.append(paragraph(_budget_text(budget), 4))
+    parts.append(paragraph(budget_text(budget), 4))
     return parts
 
 
-def _budget_text(spent: int) -> str:
-    """Which budget to try next."""
+def budget_text(spent: int, record: str = "league") -> str:
+    """Which budget to try next, and in which record it stands."""
     if spent >= MOST_BUDGET:
         return "The budget is the greatest there is; ask again when more matches are played."
     budget = min(MOST_BUDGET, 10 * spent)
-    return (f"Try the budget {budget}: the fourth field of the record `league` "
+    return (f"Try the budget {budget}: the fourth field of the record `{record}` "
             f"(at most {MOST_BUDGET}).")

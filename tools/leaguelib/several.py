@@ -55,6 +55,7 @@ def joined(lists: list[MatchList]) -> MatchList:
     for found in lists:
         whole.notes += found.notes
         whole.passed += found.passed
+        whole.groups = {**found.groups, **whole.groups}
         for head, values in found.divisions.items():
             for value, clubs in values.items():
                 whole.note_division(head, value, clubs)

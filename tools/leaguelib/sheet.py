@@ -1,4 +1,5 @@
-"""Makes a sheet from a list of fixtures by names, or several that belong together: a table with the
+"""Makes a sheet from a list of fixtures by names, or several that belong together, or with
+--runners-up that of a cup, whose groups are clubs that play each other. A list is a table with the
 columns HomeTeam and AwayTeam, or their like in German, Spanish, French, Italian or Portuguese; one
 without heads if its columns are clear; a cross table; a text of openfootball; or lines `Home -
 Away`. A list that is not complete, or that has played matches alone, is refused, unless --rounds
@@ -13,14 +14,16 @@ import sys
 
 from . import common
 from .aliases import add_alias_argument, read_aliases
+from .cup_sheet import add_cup_arguments, cup_groups, cup_notes, cup_text, group_gaps
 from .doubts import name_doubts
+from .feeds import InputReader
 from .line_names import LineNames, add_name_arguments, comments_of, told_names
 from .match_list import Match, MatchList
 from .names import nearest_name, shown
 from .pairs import Gaps, gaps_in, lone_names, look_at_cross, usual_rounds
 from .records import Refused, number_of, records_of, row_text
 from .several import read_lists
-from .texts import MOST_LINES, ORDERS, USUAL_BUDGET, SheetReader
+from .texts import MOST_LINES, ORDERS, USUAL_BUDGET
 from .wording import counted
 from .words import words_for
 
@@ -40,7 +43,7 @@ the last three of twenty; or `--lines none` if only the table is wanted."""
 
 def add_arguments(parser: argparse.ArgumentParser) -> None:
     """The words of `league sheet`."""
-    parser.add_argument("lists", nargs="+", metavar="LIST",
+    parser.add_argument("lists", nargs="*", metavar="LIST",
                         help="the list of fixtures, or several in any order; - is standard input")
     parser.add_argument("--name", help="the league's name; otherwise the title of the list")
     parser.add_argument("--lines", help="the places that count, like 1,4,17; or none")
@@ -51,6 +54,7 @@ def add_arguments(parser: argparse.ArgumentParser) -> None:
     parser.add_argument("--budget", type=int, metavar="B", help="the search budget, 1 to 50000")
     parser.add_argument("--ranks", metavar="FILE",
                         help="lines NAME,RANK: the clubs in their order, with their ranks")
+    add_cup_arguments(parser)
     add_alias_argument(parser)
     parser.add_argument("--rounds", type=int, metavar="N", help="how often each pair meets")
     parser.add_argument("--as-is", action="store_true", help="the list is meant as it is")
@@ -62,19 +66,24 @@ def add_arguments(parser: argparse.ArgumentParser) -> None:
 
 def run(arguments: argparse.Namespace) -> int:
     """Makes the sheet, or says what is missing."""
+    if arguments.runners_up is not None or arguments.groups:
+        return _run_cup(arguments)
+    if not arguments.lists:
+        raise common.Trouble("name a LIST of fixtures, or `-` for standard input",
+                             common.BAD_WORDS)
     found = read_lists(arguments.lists, read_aliases(arguments.aliases))
     if not found.matches:
         raise common.Trouble("the list has no matches")
     if not arguments.as_is:
         found.test_divisions()
-    if arguments.rounds is not None and not 1 <= arguments.rounds <= 20:
-        raise common.Trouble("--rounds is a number from 1 to 20", common.BAD_WORDS)
+    _test_rounds(arguments)
     name = arguments.name or found.title
     if not name:
         raise common.Trouble("what is the league called? Say --name \"NAME\"", common.BAD_WORDS)
     if found.is_cross:
         look_at_cross(found, arguments.rounds)
-    ranks = _ranks(arguments.ranks, found.matches)
+    ranks = _ranks(arguments.ranks, [name for match in found.matches
+                                     for name in (match.home, match.away)])
     gaps = complete(found.matches, list(ranks), arguments.rounds, arguments.as_is)
     order = arguments.order or _asked_order()
     lines = _lines(arguments.lines)
@@ -87,6 +96,35 @@ def run(arguments: argparse.Namespace) -> int:
     for note in notes:
         common.say(f"league: {note}")
     return common.DOUBTFUL if notes else common.DONE
+
+
+def _run_cup(arguments: argparse.Namespace) -> int:
+    """Makes the sheet of a cup, or says what is missing."""
+    if arguments.runners_up is None:
+        raise common.Trouble("how many of the runners-up qualify? Say --runners-up Q",
+                             common.BAD_WORDS)
+    _test_rounds(arguments)
+    found, groups = cup_groups(arguments)
+    name = arguments.name or found.title
+    if not name:
+        raise common.Trouble("what is the cup called? Say --name \"NAME\"", common.BAD_WORDS)
+    gaps = [] if not found.matches else group_gaps(
+        groups, lambda matches, clubs, rounds: complete(matches, clubs, arguments.rounds,
+                                                        arguments.as_is, rounds))
+    ranks = {} if arguments.ranks is None else _ranks(
+        arguments.ranks, [club for group in groups for club in group.clubs])
+    text = cup_text(name, groups, gaps, ranks, arguments)
+    notes = found.notes + _open_words(found) + list(_test(text)) + cup_notes(found, gaps)
+    common.write_text(text, arguments.output)
+    for note in notes:
+        common.say(f"league: {note}")
+    return common.DOUBTFUL if notes else common.DONE
+
+
+def _test_rounds(arguments: argparse.Namespace) -> None:
+    """Raises `Trouble` at a number of rounds that no sheet has room for."""
+    if arguments.rounds is not None and not 1 <= arguments.rounds <= 20:
+        raise common.Trouble("--rounds is a number from 1 to 20", common.BAD_WORDS)
 
 
 def _names_of_lines(arguments: argparse.Namespace, lines: list[int], clubs: int) -> LineNames:
@@ -102,9 +140,10 @@ def _names_of_lines(arguments: argparse.Namespace, lines: list[int], clubs: int)
     return names
 
 
-def complete(matches: list[Match], names: list[str], rounds: int | None, is_as_is: bool) -> Gaps:
+def complete(matches: list[Match], names: list[str], rounds: int | None, is_as_is: bool,
+             usual: int = 0) -> Gaps:
     """The matches to add to the list; raises `Trouble` if the list is not complete."""
-    expected = rounds or usual_rounds(matches)
+    expected = rounds or usual or usual_rounds(matches)
     gaps = gaps_in(matches, names, expected)
     if is_as_is:
         return Gaps(expected)
@@ -142,9 +181,9 @@ def _lines(text: str | None) -> list[int]:
     return [number for number in numbers if number is not None]
 
 
-def _ranks(path: str | None, matches: list[Match]) -> dict[str, int]:
-    """The clubs in their order with their ranks: 1 for all, in order of the list, unless told."""
-    names = dict.fromkeys(name for match in matches for name in (match.home, match.away))
+def _ranks(path: str | None, clubs: list[str]) -> dict[str, int]:
+    """The clubs in their order with their ranks: 1 for all, in this order, unless told."""
+    names = dict.fromkeys(clubs)
     if path is None:
         return {name: 1 for name in names}
     ranks: dict[str, int] = {}
@@ -239,7 +278,7 @@ def _comments(found: MatchList, gaps: Gaps, ranks: dict[str, int], order: str,
 
 def _test(text: str) -> list[str]:
     """Tests the sheet as the program does; gives what looks wrong in it."""
-    reader = SheetReader()
+    reader = InputReader()
     try:
         for record in records_of(text.encode("utf-8", "surrogateescape")):
             fields = record.fields

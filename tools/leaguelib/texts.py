@@ -57,6 +57,11 @@ class Sheet:
     fixtures: list[Fixture] = field(default_factory=list)
     lines: list[int] = field(default_factory=list)
 
+    @property
+    def is_cup(self) -> bool:
+        """Whether it is the sheet of a cup (`cups.py`)."""
+        return False
+
     def club_named(self, name: str) -> Club | None:
         """The club of exactly this name."""
         return next((club for club in self.clubs if club.name == name), None)
@@ -115,6 +120,8 @@ class Season:
 class SheetReader:
     """Takes the records of a sheet one by one; `sheet` is there from the first record on."""
 
+    first, missing, widths = "league", "no_league", SHEET_WIDTHS
+
     def __init__(self) -> None:
         self.sheet: Sheet | None = None
         self.is_ended = False
@@ -130,14 +137,16 @@ class SheetReader:
 
     def take(self, record: Record) -> None:
         """Takes the next record, or raises `Refused` and changes nothing."""
-        if self.sheet is None and record.kind != "league":
-            self._refuse(record, "no_league", 1)
+        if self.sheet is None and record.kind != self.first:
+            self._refuse(record, self.missing, 1)
         self._test_place(record)
-        if len(record.fields) not in SHEET_WIDTHS[record.kind]:
+        if len(record.fields) not in self.widths[record.kind]:
             self._refuse(record, "wrong_width")
-        takers = {"league": self._take_league, "club": self.take_club, "match": self._take_match,
-                  "line": self._take_line, "season": self._take_season}
-        takers[record.kind](record)
+        self._takers()[record.kind](record)
+
+    def _takers(self) -> dict:
+        return {"league": self._take_league, "club": self.take_club, "match": self._take_match,
+                "line": self._take_line, "season": self._take_season}
 
     def _test_place(self, record: Record) -> None:
         """Whether a record of this kind may stand here."""

@@ -8,9 +8,11 @@ from . import common
 from .answers import Place, read_report
 from .bookkeeper import Bookkeeper
 from .changes import SHORT, Words, change_text, changes_between, summary, words_of
+from .cup_screen import by_groups, ranking_rows, ranking_title
 from .line_names import LineNames
 from .outlook import Outlook
 from .records import row_text
+from .screen import columns
 from .texts import Fixture
 from .wording import counted, limit_phrase, listed, score_text, shown
 
@@ -111,7 +113,19 @@ class Speaker:
 
     def table(self, table: list[Place]) -> None:
         """The table of the matches that have ended."""
-        self.tell(table_text(table))
+        self.tell(self.table_text(table, {}))
+
+    def table_text(self, table: list[Place], in_play: dict[int, tuple[int, int]]) -> str:
+        """A table in columns; of a cup one a group, and the ranking of the runners-up."""
+        cup = self.book.sheet
+        text = table_text(table)
+        if not cup.is_cup:
+            return text
+        season = self.book.feed.season.copy()
+        season.scores.update(in_play)
+        ranking = columns(ranking_rows(cup, season, table, {}), (2,))
+        return "\n".join([*by_groups(cup, table, text.split("\n")), "", ranking_title(cup),
+                          *ranking])
 
     def tonight(self, fixtures: list[Fixture], found: list[Outlook]) -> None:
         """What the next matches can decide, each by itself."""
@@ -132,7 +146,8 @@ class Speaker:
         """The table, and what would change, if the matches in play ended as they stand."""
         scores = [score_text(self.book.sheet.fixture(number), score)
                   for number, score in in_play.items()]
-        lines = [f"as it stands, if {listed(scores)} were the end:", table_text(table)]
+        lines = [f"as it stands, if {listed(scores)} were the end:",
+                 self.table_text(table, in_play)]
         changes = changes_between(before, after)
         lines += [change_text(change, self.names) for change in changes]
         self.tell("\n".join(lines if changes else [*lines, "no verdict would change"]))

@@ -10,10 +10,11 @@ from dataclasses import dataclass, field
 
 from .answers import Answer, Score, Verdict
 from .asking import FEW_OPEN, MIDDLE_BUDGET, run_mode, with_asks, with_budget
+from .cup_why import CupWhy
 from .enough import score_words
 from .lines import with_lines_of
 from .news import plain
-from .proved import Told, own_report
+from .proved import Told, own_report, proved_row
 from .reasons import Points, short_reason
 from .running import report_of
 from .screen import SHORT
@@ -61,12 +62,10 @@ class Why:
         return data if few else with_budget(data, min(TRIAL_BUDGET, self.view.sheet.budget))
 
     def proof_of(self, verdict: Verdict) -> Verdict | None:
-        """The verdict with its proof, where the program's check accepted it."""
+        """The verdict with its proof, where that may be told."""
         told = self.told or self._own_report(verdict.places)
         answer: Answer = told.report.answers[-1 if self.told is None else self.view.ask.position]
-        same = [it for it in answer.verdicts
-                if (it.places, it.club, it.word) == (verdict.places, verdict.club, verdict.word)]
-        return same[0] if same and told.is_checked and same[0].proofs else None
+        return proved_row(answer, verdict) if told.is_told else None
 
     def _own_report(self, places: int) -> Told:
         """The program's own report of this line."""
@@ -92,6 +91,7 @@ def why_text(why: Why, club: str, lines: list[int]) -> str:
     row = next(place for place in view.table if place.club == club)
     place = str(row.best) if row.best == row.worst else f"{row.best} to {row.worst}, by lots"
     left = why.points.left[club]
+    place += f" of {view.sheet.group_of(club).title}" if view.sheet.is_cup else ""
     head = (f"{shown(club)}: place {place}, {counted(row.points, 'point')} from "
             f"{counted(row.played, 'match', 'matches')}")
     head += f", {counted(left, 'match', 'matches')} to play." if left else ", all played."
@@ -104,11 +104,16 @@ def why_text(why: Why, club: str, lines: list[int]) -> str:
 
 def _line_texts(why: Why, verdict: Verdict) -> list[str]:
     """One line: the word, and after it the reason or the ways."""
-    title = why.view.names.place(verdict.places)
+    view = why.view
+    title = view.names.place(verdict.places)
     word = SHORT[verdict.word]
     below = why.view.names.outside(verdict.places)
     word += f" ({below})" if below and verdict.word == "lost" else ""
     parts = [f"{title[:1].upper()}{title[1:]}: {word}."]
+    if view.sheet.is_cup:
+        told = CupWhy(why.path, view.given.data, view.league, view.ask.position, view.table,
+                      view.ask.budget, why.proof_of)
+        return parts + [paragraph(text, 2) for text in told.sentences(verdict)]
     if verdict.word == "unsettled":
         return parts + unsettled_texts(why.view.sheet, verdict, why.view.ask.budget)
     if verdict.word == "possible":

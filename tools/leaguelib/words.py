@@ -2,6 +2,7 @@
 
 from __future__ import annotations
 
+from .cup_words import CUP_RECORD, cup_words, misplaced_words
 from .names import nearest_name, shown
 from .records import Refused
 from .texts import Sheet
@@ -18,6 +19,8 @@ FORMS = {
     "deduct": "`deduct,CLUB,POINTS`, with the points taken away in all",
     "ask": "`ask` alone",
     "when": "`when,FIXTURE`, like `when,1`",
+    "cup": CUP_RECORD,
+    "group": "`group,NAME`",
 }
 FEED_FORMS = ("result", "fix", "void", "deduct", "ask")
 SAVED_WORDS = ("this is a line of a saved text: `league save` writes it, and `league resume SHEET "
@@ -32,6 +35,11 @@ BAD_FIELDS = {
     ("club", 2): "the club's name (field 2) is 1 to 40 bytes long, without control signs",
     ("club", 3): "the rank (field 3) is a whole number from 1 to 999, and 1 for all fits most "
                  "leagues",
+    ("cup", 2): "the cup's name (field 2) is 1 to 40 bytes long, without control signs",
+    ("cup", 3): "the goal limit (field 3) is a whole number from 1 to 20, and 9 fits most cups",
+    ("cup", 4): "the budget (field 4) is a whole number from 1 to 50,000; 2000 is the usual one",
+    ("cup", 5): "field 5 is the number of runners-up that qualify",
+    ("group", 2): "the group's name (field 2) is 1 to 40 bytes long, without control signs",
     ("line", 2): "a line (field 2) is a whole number: how many places count, like 4",
 }
 
@@ -39,8 +47,12 @@ BAD_FIELDS = {
 def words_for(refused: Refused, fields: list[str], sheet: Sheet | None) -> str:
     """One or two sentences on a refused record, from its fields put right in form."""
     kind = fields[0] if fields else ""
+    is_cup = refused.code == "no_cup" or (sheet is not None and sheet.is_cup)
+    own = cup_words(refused.code, fields, sheet) if is_cup and refused.where == "sheet" else None
+    if own is not None:
+        return own
     if refused.code == "unknown_record":
-        return _unknown_record(kind, refused.where)
+        return _unknown_record(kind, refused.where, sheet)
     if refused.code == "wrong_width":
         return f"this record has {_count(len(fields))}; it is written {FORMS.get(kind, '')}"
     if refused.code == "bad_field":
@@ -54,18 +66,23 @@ def _count(number: int) -> str:
     return "one field" if number == 1 else f"{number} fields"
 
 
-def _unknown_record(kind: str, where: str) -> str:
+def _unknown_record(kind: str, where: str, sheet: Sheet | None) -> str:
     """A first word that does not fit here."""
     if kind in ANSWER_WORDS or kind.startswith("["):
         return "this is a row of an answer of futmax, and no line of a sheet or a feed"
     if kind in ("saved", "saved_end"):
         return SAVED_WORDS
-    if where == "feed" and kind in ("club", "match", "line", "league"):
+    if where == "sheet" and sheet is not None and sheet.is_cup:
+        return misplaced_words(kind, sheet)
+    if where == "feed" and kind in ("club", "match", "line", "league", "cup", "group"):
         return f"`{kind}` belongs in the sheet: move this line up, before `season`"
     if where == "feed" and kind == "season":
         return "`season` comes once, at the end of the sheet: leave this line out"
     if where == "sheet" and kind == "club":
         return "clubs come before the first match and the first line: move this line up"
+    if where == "sheet" and kind in ("cup", "group"):
+        return (f"`{kind}` belongs in the sheet of a cup, which begins with `cup`; this is the "
+                "sheet of a league")
     if where == "sheet" and kind == "league":
         return "`league` comes once, as the first record: leave this line out"
     if kind == "when":
@@ -81,7 +98,9 @@ def _unknown_record(kind: str, where: str) -> str:
 def _unknown_club(fields: list[str], position: int, sheet: Sheet | None) -> str:
     """A name that no club has."""
     name = fields[position - 1] if 0 < position <= len(fields) else ""
-    names = [club.name for club in sheet.clubs] if sheet else []
+    # a match of a cup is of the group begun last
+    held = sheet.groups[-1] if sheet and sheet.is_cup and fields[:1] == ["match"] else sheet
+    names = [club.name for club in held.clubs] if held else []
     near = nearest_name(name, names)
     hint = f" The nearest name is {shown(near)}." if near else ""
     if not name:

@@ -11,7 +11,8 @@ from leaguelib.records import fields_of
 from .counting import HOME, Counter, called, said, same, sound_end
 from .mistake import SHEET
 
-EXAMPLES = sorted(path.parent for path in HOME.glob("examples/*/sheet.csv"))
+EXAMPLES = sorted(path.parent for path in HOME.glob("examples/*/sheet.csv")
+                  if path.read_text("utf-8").startswith("league,"))
 LIST = "Anchor - Köln\nKöln - Dock United\nDock United - Anchor\n"
 MADE = ["--name", "Cup", "--lines", "1", "--order", "head_first"]
 DIVISIONS = ("Div,Date,HomeTeam,AwayTeam\nE0,13/04/2024,A,B\nE0,20/04/2024,B,A\n"

@@ -49,10 +49,10 @@ use Rattle.std.proofs.lemmas.List.{map-append}
 -- ---- lines before them
 
 -- what contents come to is what the rest comes to, if that is so of all that may follow these lines
-checks-behind : (one two : Contents → Option CheckOutcome) (contents rest : Contents)
+pub checks-behind : {O : Type 0} (one two : Contents → Option O) (contents rest : Contents)
     (after : Option Contents) (front : List (ℕ × List ℕ)) → contents ≡ with_lines front rest
     → ((other : Contents) → one (with_lines front other) ≡ two other)
-    → (result : Result CheckOutcome CheckFailure) → ChecksBy two rest after result
+    → (result : Result O CheckFailure) → ChecksBy two rest after result
     → ChecksBy one contents after result
 checks-behind one two contents rest after front is same (Ok outcome) checks =
     ap one is ∙ same rest ∙ checks

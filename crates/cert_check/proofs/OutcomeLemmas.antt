@@ -93,7 +93,7 @@ none-left standing (line ∷ lines) none =
     by_test false is behind = passed-over standing line lines is ∙ behind (rw is at none)
 
 -- and back
-left-none : (standing : ReportProgressView) (lines : List NumberedLine) (rows unsettled : ℕ)
+pub left-none : (standing : ReportProgressView) (lines : List NumberedLine) (rows unsettled : ℕ)
     → outcome_at_end standing lines ≡ Accepted rows unsettled
     → filter counts (map (λ (l : NumberedLine). token_of l.text) lines) ≡ []
 left-none standing [] rows unsettled is = refl

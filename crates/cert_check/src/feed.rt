@@ -2,7 +2,6 @@
 
 ghost use Rattle.std.specs.Prelude.{◌≡◌, ◌≤◌, ◌+◌, true, All, IfOk, IfSome, OnOk};
 ghost use Rattle.std.specs.Prelude.{length};
-ghost use Rattle.league_core.specs.game.Sheets.{IsWithinLimits};
 ghost use Rattle.port_core.specs.Contents.{Contents, input_limit};
 ghost use Rattle.port_core.specs.Readers.{TakesInput, contents_to_come};
 ghost use Rattle.result_log.specs.Records.{IsEntryAt};
@@ -80,7 +79,8 @@ pub fn read_feed<S: Source>(
     reader: &mut LineReader,
     source: &mut S,
 ) -> Result<FeedRead, FeedStop>
-    requires limits { IsWithinLimits sheet.now }
+    requires clubs { length sheet.now.clubs ≤ 255 }
+    requires numbers { length sheet.now.fixtures ≤ 65535 }
     requires start { unread ≡ state_unread sheet.now }
     // If the source shows its bytes: what was still to come, and what is.
     ensures reads { IfRead (contents_to_come reader.old (S.left source.old)) (λ contents.
@@ -112,7 +112,8 @@ fn take_entry<S: Source>(
     reader: &mut LineReader,
     source: &mut S,
 ) -> Result<Option<bool>, FeedStop>
-    requires limits { IsWithinLimits sheet.now }
+    requires clubs { length sheet.now.clubs ≤ 255 }
+    requires numbers { length sheet.now.fixtures ≤ 65535 }
     requires state { IsStateOf sheet.now feed.old }
     ensures reads { (start : Contents)
         → LeadsFeed sheet.now start (contents_to_come reader.old (S.left source.old))

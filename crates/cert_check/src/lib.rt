@@ -37,6 +37,9 @@ pub use laws::{
 };
 pub use lines::{LinesStop, ReportLines, read_lines};
 pub use outcome::{CheckFailure, CheckOutcome, ReportFault};
-pub use ranges::may_refute;
+pub use path::next_half;
+pub use ranges::{may_refute, same_claim};
 pub use report::Report;
+pub use row::{decimal_of, is_ask_row, word_in_row};
 pub use stop::{Accepted, CheckStop, CheckStopAt};
+pub use tree::{is_tally_whole, with_fresh};

@@ -84,14 +84,16 @@ impl<'a> Report<'a> {
     }
 }
 
-fn decimal_of(alloc: Global, number: u64) -> Result<String, OutOfMemory>
+/// The digits of a number.
+pub fn decimal_of(alloc: Global, number: u64) -> Result<String, OutOfMemory>
     ensures { IfOk result (λ text. string_bytes text ≡ decimal number) }
 {
     let text: Result<String, AllocError> = format!(in alloc; "{number}");
     Ok(text?)
 }
 
-fn is_ask_row(fields: &Fields, epoch: &str) -> bool
+/// The fields are the row of the ask after so many events.
+pub fn is_ask_row(fields: &Fields, epoch: &str) -> bool
     ensures { result ≡ ((length fields.now == 2) && bytes_eq (field 0 fields.now) (codes "ask")
         && bytes_eq (field 1 fields.now) epoch.now) }
 {
@@ -109,7 +111,8 @@ fn is_row_about(fields: &Fields, number: &str, name: &str) -> bool
         && fields.at(2) == name.as_bytes()
 }
 
-fn word_in_row(fields: &Fields, number: &str, name: &str) -> Option<RowWord>
+/// The word that a row says of this number and this name, if it is their row.
+pub fn word_in_row(fields: &Fields, number: &str, name: &str) -> Option<RowWord>
     ensures { result ≡ dues.word_if_about ((length fields.now == 4)
         && bytes_eq (field 0 fields.now) (codes "verdict")
         && bytes_eq (field 1 fields.now) number.now && bytes_eq (field 2 fields.now) name.now)

@@ -176,7 +176,8 @@ impl<'a> Report<'a> {
     }
 }
 
-fn with_fresh(fresh: bool, tally: Tally) -> Tally
+/// What was counted with one node more, which is new or not.
+pub fn with_fresh(fresh: bool, tally: Tally) -> Tally
     requires { tally.news + 1 < 2 ^ 64 }
     ensures { result ≡ dues.with_fresh fresh tally }
 {
@@ -190,7 +191,8 @@ fn with_fresh(fresh: bool, tally: Tally) -> Tally
     }
 }
 
-fn is_tally_whole(budget: u32, kind: TreeKind, tally: Tally) -> bool
+/// A tree of this kind may end so, with this budget.
+pub fn is_tally_whole(budget: u32, kind: TreeKind, tally: Tally) -> bool
     ensures { result ≡ dues.is_tally_whole budget kind tally }
 {
     match kind {

@@ -201,6 +201,14 @@ refutes_over-is sheet season question zone corners before after Tie are before_i
     || list_any (λ rival. (after_is i rival && is_above (sure i rival))
     || (before_is i rival && is_below (sure i rival))) (rivals_of sheet question.club))
 
+-- whether the zone has a finish
+pub has_finish-is : (sheet : Sheet) (season : Results) (zone : List Literal)
+    (corners : List (List Score)) → AreAllExtremesOf corners (options_in sheet season zone)
+    → list_all has_option corners ≡ has_finish sheet season zone
+unfolding has_finish
+has_finish-is sheet season zone corners are =
+    tests_same has_option some_same corners (options_in sheet season zone) are
+
 -- whether a reason holds
 pub has_reason-is : (sheet : Sheet) (season : Results) (question : Question)
     (zone : List Literal) (corners : List (List Score)) (before after : ℕ → Bool)

@@ -8,7 +8,7 @@ ghost use Rattle.league_core.specs.game.Questions.{IsQuestionOf};
 ghost use Rattle.league_core.specs.search.Reasons.{has_reason};
 ghost use Rattle.league_core.specs.search.Zones.{is_test_of, is_zone_of};
 ghost use Rattle.club_keys.specs.inside.KeyEnds.{AreKeyEnds};
-ghost use Rattle.league_core.specs.search.Options.{options_in};
+ghost use Rattle.league_core.specs.search.Options.{has_finish, options_in};
 ghost use Rattle.check_bounds.specs.inside.Zones.{AreScoreDomainsOf};
 ghost use Rattle.check_bounds.specs.inside.Trails.{root_of, farther, AreMarks};
 
@@ -125,6 +125,13 @@ impl<'a> Trail<'a> {
             ≡ has_reason self.now.sheet self.now.season question.now self.now.zone reason }
     {
         holds_over(self.season, question, &self.cells, self.marks, reason)
+    }
+
+    /// Whether the zone has a finish: each fixture has a score left. Marks do not count.
+    pub fn has_finish(&self) -> bool
+        ensures { result ≡ has_finish self.now.sheet self.now.season self.now.zone }
+    {
+        self.cells.have_scores()
     }
 
     /// The sheet in which the way lies.

@@ -21,6 +21,9 @@ pub enum Mode {
     Decide { proofs: bool },
     /// A report of `Verdicts` is checked, or a `wide` one, of `Decide`.
     Check { wide: bool },
+    /// At each ask of a cup, the verdict of every club; with `proofs`, what shows it after those
+    /// that it shows.
+    Groups { proofs: bool },
     /// The verdicts of the league that this number gives are counted. No input is read.
     Sample { seed: u64 },
 }

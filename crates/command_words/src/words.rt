@@ -103,6 +103,8 @@ fn mode_named(word: &str, proofs: bool, seed: u64) -> Option<Mode>
         Some(Mode::Check { wide: false })
     } else if word == "decide_check" {
         Some(Mode::Check { wide: true })
+    } else if word == "groups" {
+        Some(Mode::Groups { proofs })
     } else if word == "sample" {
         Some(Mode::Sample { seed })
     } else {

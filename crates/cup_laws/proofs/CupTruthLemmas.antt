@@ -100,7 +100,7 @@ own_qualifies cup seasons finishes lots club key listed refuted ends many few dr
             | inl is ↦ is
             | inr other ↦ absurd (not_at_end clubs mine finish lots
                 (record { kind = SecondLess; club = own; key = key }) end drawn inside
-                refuted.outer
+                refuted.nearer
                 (and_from (place == 2) (not (is_key_from key own_key)) second (ap not other)))
           ] in
           let behind : All (PassesAt (λ group. not (taken group) && not (better group)) states)
@@ -181,7 +181,7 @@ own_fails cup seasons finishes lots club key listed refuted ends drawn finish en
             | inl is ↦ is
             | inr other ↦ absurd (not_at_end clubs mine finish lots
                 (record { kind = SecondMore; club = own; key = key }) end drawn inside
-                refuted.outer
+                refuted.nearer
                 (and_from (place == 2) (not (is_key_from own_key key)) both.0 (ap not other)))
           ] in
           let ahead : All (PassesAt (λ group. kept group && better group) states) listed =

@@ -1,13 +1,13 @@
 -- The trees of a group's clubs, one by one.
-use Rattle.std.proofs.Common.{◌≡◌, ℕ, ◌+◌, ◌<◌, List, [], ◌∷◌, ◌++◌, length, take}
-use Rattle.std.proofs.Common.{slice_index_or, ap, sym, ◌∙◌, arith}
+use Rattle.std.proofs.Common.{◌≡◌, ℕ, ◌+◌, ◌<◌, List, [], ◌∷◌, ◌++◌, length, take, slice_index_or}
+use Rattle.std.proofs.Common.{ap, sym, ◌∙◌, arith}
 use Rattle.std.proofs.lemmas.List.{append_assoc, append-nil, take_more, length-take-le}
 use Rattle.cup_sheet.specs.declared.question.GroupKind.{GroupKind}
 use Rattle.cup_text.specs.declared.cup_line.CupLine.{CupLine}
 use Rattle.runners_up.specs.inside.GroupsAsked.{GroupNodes}
-use Rattle.cup_rows.specs.declared.start.GroupStart.{GroupStart}
-use Rattle.cup_rows.specs.GroupTreeLines.{group_tree_lines}
-use Rattle.cup_rows.specs.VerdictLines.{club_trees_from}
+use Rattle.cup_groups.specs.declared.start.GroupStart.{GroupStart}
+use Rattle.cup_rows.specs.inside.GroupTreeLines.{group_tree_lines}
+use Rattle.cup_rows.specs.inside.VerdictLines.{club_trees_from}
 
 -- one club more
 club_trees-push : (start : GroupStart) (kind : GroupKind) (club : ℕ) (trees : List GroupNodes)

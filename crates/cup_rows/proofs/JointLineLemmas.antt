@@ -13,8 +13,8 @@ use Rattle.cup_sheet.specs.JointFinishes.{AreFinishesOf}
 use Rattle.runners_up.specs.inside.JointEnds.{group_finishes}
 use Rattle.tree_arena.specs.declared.example.Example.{Example}
 use Rattle.cup_text.specs.declared.cup_line.CupLine.{CupLine}
-use Rattle.cup_rows.specs.JointLines.{cup_score_if, group_scores_from, joint_scores_from}
-use Rattle.cup_rows.specs.JointLines.{scores_together, AreEndsAlike}
+use Rattle.cup_text.specs.CupItems.{cup_score_if, group_scores_from, joint_scores_from}
+use Rattle.cup_rows.specs.inside.JointLines.{scores_together, AreEndsAlike}
 
 -- one more fixture
 group_scores-push : (fixture : ℕ) (season finish : List (Option Score))
@@ -88,8 +88,8 @@ ends_alike_at (first ∷ seasons) (last ∷ ends) (suc group) season end alike i
 -- one group more
 joint_scores-push : (fixture : ℕ) (seasons : List Results) (ends : List Example)
     (season : Results) (end : Example) → length ends ≡ length seasons
-    → joint_scores_from fixture (seasons ++ season ∷ []) (ends ++ end ∷ [])
-    ≡ joint_scores_from fixture seasons ends
+    → joint_scores_from fixture (seasons ++ season ∷ []) (group_finishes (ends ++ end ∷ []))
+    ≡ joint_scores_from fixture seasons (group_finishes ends)
     ++ group_scores_from (fixture + scores_together seasons) season.scores end.finish.scores
 joint_scores-push fixture [] [] season end same =
     let here : fixture + 0 ≡ fixture = omega arith in
@@ -100,7 +100,7 @@ joint_scores-push fixture (other ∷ seasons) [] season end same = absurd (omega
 joint_scores-push fixture (first ∷ seasons) (last ∷ ends) season end same =
     let line = group_scores_from fixture first.scores last.finish.scores in
     let next = fixture + length first.scores in
-    let lines = joint_scores_from next seasons ends in
+    let lines = joint_scores_from next seasons (group_finishes ends) in
     let there : next + scores_together seasons ≡ fixture + scores_together (first ∷ seasons) =
     omega arith in
     ap (λ t. line ++ t) (joint_scores-push next seasons ends season end (omega (arith, same)))
@@ -141,27 +141,32 @@ pub joint_scores-step : (start before after : List CupLine) (first : ℕ) (seaso
     → group < length seasons → length ends ≡ length seasons
     → season ≡ slice_index_or seasons group season → end ≡ slice_index_or ends group end
     → first ≡ scores_together (take group seasons)
-    → before ≡ start ++ joint_scores_from 0 (take group seasons) (take group ends)
+    → before ≡ start ++ joint_scores_from 0 (take group seasons) (group_finishes (take group ends))
     → after ≡ before ++ group_scores_from first season.scores end.finish.scores
-    → after ≡ start ++ joint_scores_from 0 (take (group + 1) seasons) (take (group + 1) ends)
+    → after ≡ start
+    ++ joint_scores_from 0 (take (group + 1) seasons) (group_finishes (take (group + 1) ends))
 joint_scores-step start before after first seasons ends group season end inside same here there
     first_is before_is after_is =
     let few : length (take group seasons) ≡ group = length-take-le group seasons (omega arith) in
     let as_few : length (take group ends) ≡ group = length-take-le group ends (omega (arith, same))
     in
     let at : 0 + scores_together (take group seasons) ≡ first = omega (arith, first_is) in
-    let lines = joint_scores_from 0 (take group seasons) (take group ends) in
+    let lines = joint_scores_from 0 (take group seasons) (group_finishes (take group ends)) in
     let line = group_scores_from first season.scores end.finish.scores in
-    let more : joint_scores_from 0 (take (group + 1) seasons) (take (group + 1) ends)
+    let more : joint_scores_from 0 (take (group + 1) seasons)
+    (group_finishes (take (group + 1) ends))
     ≡ lines ++ line =
-    ap (λ xs. joint_scores_from 0 xs (take (group + 1) ends))
+    ap (λ xs. joint_scores_from 0 xs (group_finishes (take (group + 1) ends)))
     (take_more seasons group season inside)
-    ∙ ap (λ it. joint_scores_from 0 (take group seasons ++ it ∷ []) (take (group + 1) ends))
+    ∙ ap (λ it. joint_scores_from 0 (take group seasons ++ it ∷ [])
+    (group_finishes (take (group + 1) ends)))
     (sym here)
-    ∙ ap (joint_scores_from 0 (take group seasons ++ season ∷ []))
+    ∙ ap
+    (λ them. joint_scores_from 0 (take group seasons ++ season ∷ []) (group_finishes them))
     (take_more ends group end (omega (arith, same)))
     ∙ ap
-    (λ it. joint_scores_from 0 (take group seasons ++ season ∷ []) (take group ends ++ it ∷ []))
+    (λ it. joint_scores_from 0 (take group seasons ++ season ∷ [])
+    (group_finishes (take group ends ++ it ∷ [])))
     (sym there)
     ∙ joint_scores-push 0 (take group seasons) (take group ends) season end (as_few ∙ sym few)
     ∙ ap (λ n. lines ++ group_scores_from n season.scores end.finish.scores) at in
@@ -185,12 +190,13 @@ joint_room seasons group season first inside here first_is few =
 -- after the last group the lines are those of all
 pub joint_all : (start lines : List CupLine) (seasons : List Results) (ends : List Example)
     (group : ℕ) → length ends ≡ length seasons → length seasons ≤ group
-    → lines ≡ start ++ joint_scores_from 0 (take group seasons) (take group ends)
-    → lines ≡ start ++ joint_scores_from 0 seasons ends
+    → lines ≡ start ++ joint_scores_from 0 (take group seasons) (group_finishes (take group ends))
+    → lines ≡ start ++ joint_scores_from 0 seasons (group_finishes ends)
 joint_all start lines seasons ends group same end is =
     is
-    ∙ ap (λ xs. start ++ joint_scores_from 0 xs (take group ends)) (take_all group seasons end)
-    ∙ ap (λ xs. start ++ joint_scores_from 0 seasons xs)
+    ∙ ap (λ xs. start ++ joint_scores_from 0 xs (group_finishes (take group ends)))
+    (take_all group seasons end)
+    ∙ ap (λ them. start ++ joint_scores_from 0 seasons (group_finishes them))
     (take_all group ends (omega (arith, same, end)))
 
 -- ---- of a cup

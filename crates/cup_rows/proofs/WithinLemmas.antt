@@ -1,6 +1,6 @@
 -- The trees that a search of a group made are of its clubs and fixtures.
-use Rattle.std.proofs.Common.{◌≡◌, ◌≤◌, ◌+◌, true, not, ◌&&◌, nat_lt, List, []}
-use Rattle.std.proofs.Common.{length, refl, arith, false}
+use Rattle.std.proofs.Common.{◌≡◌, ◌≤◌, ◌+◌, true, not, ◌&&◌, nat_lt, List, [], length, refl, arith}
+use Rattle.std.proofs.Common.{false}
 use Rattle.std.specs.Prelude.{All, IsTrue, ◌==◌}
 use Rattle.std.proofs.lemmas.Bool.{and_parts, ltb-true}
 use Rattle.std.proofs.lemmas.List.Elements.{All-nil, All-cons, All-append}
@@ -18,8 +18,8 @@ use Rattle.cup_sheet.specs.CupLimits.{direct_places}
 use Rattle.cup_sheet.specs.GroupQuestions.{GroupQuestion, place_question}
 use Rattle.cup_sheet.specs.GroupTrees.{ZonesMeet, IsFairGroupSplit}
 use Rattle.group_search.specs.inside.GroupTasks.{new_group_tree}
-use Rattle.cup_rows.specs.declared.start.GroupStart.{GroupStart}
-use Rattle.cup_rows.specs.GroupTreeLines.{IsCupTestWithin, IsNodeWithin}
+use Rattle.cup_groups.specs.declared.start.GroupStart.{GroupStart}
+use Rattle.cup_rows.specs.inside.GroupTreeLines.{IsCupTestWithin, IsNodeWithin}
 
 -- a proper split is by a club or a fixture of the group
 proper_within : (start : GroupStart) (sheet : Sheet) (season : Results) (question : Question)

@@ -1,4 +1,2 @@
--- Read in this order.
-pub mod GroupTreeLines
-pub mod JointLines
-pub mod VerdictLines
+-- Words of the functions stand in inside/; what an answer writes stands in cup_text.
+pub mod inside

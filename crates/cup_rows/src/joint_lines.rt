@@ -4,9 +4,10 @@ ghost use Rattle.std.specs.Prelude.{◌≡◌, ◌<◌, ◌≤◌, ◌+◌, ◌+
 ghost use Rattle.cup_sheet.specs.Cups.{IsCup, AreSeasonsOf};
 ghost use Rattle.cup_sheet.specs.JointFinishes.{AreFinishesOf};
 ghost use Rattle.runners_up.specs.inside.JointEnds.{group_finishes};
-ghost use Rattle.cup_text.specs.CupForms.{most_cup_fixtures};
-ghost use Rattle.cup_rows.specs.JointLines.{cup_score_if, group_scores_from, joint_scores_from};
-ghost use Rattle.cup_rows.specs.JointLines.{joint_lines, scores_together, AreEndsAlike};
+ghost use Rattle.cup_sheet.specs.CupLimits.{most_cup_fixtures};
+ghost use Rattle.cup_text.specs.CupItems.{cup_score_if, group_scores_from, joint_scores_from};
+ghost use Rattle.cup_text.specs.CupItems.{joint_lines};
+ghost use Rattle.cup_rows.specs.inside.JointLines.{scores_together, AreEndsAlike};
 
 use cert_text::ClubList;
 use cup_sheet::Cup;
@@ -18,7 +19,7 @@ use tree_arena::Example;
 
 /// Adds a joint finish, under the head of its side: how the fixtures end that the seasons have no
 /// score for, and the lots.
-pub fn push_joint(
+pub(crate) fn push_joint(
     alloc: Global,
     lines: &mut Vec<CupLine>,
     cup: &Cup,
@@ -30,7 +31,8 @@ pub fn push_joint(
     requires seasons { AreSeasonsOf cup.now.groups seasons.now }
     requires ends { AreFinishesOf cup.now.groups seasons.now (group_finishes joint.now.ends) }
     ensures { OnOk result (lines.new.items
-        ≡ lines.old.items ++ joint_lines claim seasons.now joint.now) }
+        ≡ lines.old.items ++ joint_lines claim seasons.now (group_finishes joint.now.ends)
+        joint.now.lots) }
 {
     lines.push(CupLine::Finish(claim))?;
     push_all_scores(lines, seasons, joint.ends.as_slice())?;
@@ -48,7 +50,7 @@ fn push_all_scores(
     requires alike { AreEndsAlike seasons.now ends.now }
     requires few { scores_together seasons.now ≤ most_cup_fixtures }
     ensures { OnOk result (lines.new.items
-        ≡ lines.old.items ++ joint_scores_from 0 seasons.now ends.now) }
+        ≡ lines.old.items ++ joint_scores_from 0 seasons.now (group_finishes ends.now)) }
 {
     let mut first = 0;
     for group in 0..seasons.len() {

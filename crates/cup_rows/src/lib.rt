@@ -1,19 +1,19 @@
-//! The lines of a cup's answer: what shows what is known of a club.
+//! The answer of a cup, club by club: a word, and the lines that show it, as rows on their way to
+//! the sink.
 //!
 //! Clubs, fixtures and groups have the numbers of the cup; the trees of a search have those of
-//! their group. Read `specs/GroupTreeLines.antt` first, then `specs/JointLines.antt` and
-//! `specs/VerdictLines.antt`.
+//! their group. Read `specs/CupTexts.antt` first.
 #![tactic(auto)]
 
+mod answer;
+mod found;
 mod joint_lines;
 mod node_line;
+mod put;
 mod refuted;
-mod start;
 mod tree_lines;
 mod verdict;
 
-pub use joint_lines::push_joint;
-pub use refuted::refuted_lines;
-pub use start::{GroupStart, group_start};
-pub use tree_lines::{push_refutation, push_spent};
-pub use verdict::verdict_lines;
+pub use answer::{CupAnswer, put_cup_answer};
+pub use found::{FoundClub, finding_lines, word_of_finding};
+pub use put::put_cup_item;

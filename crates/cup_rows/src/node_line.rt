@@ -2,12 +2,13 @@
 
 ghost use Rattle.std.specs.Prelude.{◌≡◌, ◌<◌, ◌≤◌, ◌+◌, ℕ, All, IfOk, map};
 ghost use Rattle.league_core.specs.game.ClubSets.{clubs_in};
-ghost use Rattle.cup_text.specs.CupForms.{most_cup_clubs};
-ghost use Rattle.cup_rows.specs.GroupTreeLines.{test_in_cup, clubs_in_cup, reason_in_cup};
-ghost use Rattle.cup_rows.specs.GroupTreeLines.{leaf_in_cup, IsCupTestWithin};
+ghost use Rattle.cup_sheet.specs.CupLimits.{most_cup_clubs};
+ghost use Rattle.cup_text.specs.GroupNodeLines.{test_in_cup, clubs_in_cup, reason_in_cup};
+ghost use Rattle.cup_text.specs.GroupNodeLines.{leaf_in_cup};
+ghost use Rattle.cup_rows.specs.inside.GroupTreeLines.{IsCupTestWithin};
 
-use crate::start::GroupStart;
 use cert_text::ClubList;
+use cup_groups::GroupStart;
 use cup_sheet::GroupReason;
 use cup_text::{CupLeaf, CupReason};
 use league_core::{ClubSet, Listing, OutOfMemory, Reason, Test};
@@ -70,7 +71,7 @@ fn reason_in_cup(alloc: Global, start: GroupStart, reason: Reason) -> Result<Cup
 }
 
 // The clubs of a cut, the first club of the group having this number in the cup.
-#[tactic(auto, using(crate::proofs::StartLemmas::few_numbers))]
+#[tactic(auto, using(crate::proofs::MemberLemmas::few_numbers))]
 fn clubs_in_cup(alloc: Global, first: u8, cut: ClubSet) -> Result<ClubList, OutOfMemory>
     requires { first ≤ most_cup_clubs }
     ensures { IfOk result (λ list. list ≡ clubs_in_cup first (clubs_in cut)) }

@@ -4,28 +4,28 @@ ghost use Rattle.std.specs.Prelude.{◌≡◌, ◌<◌, ◌≤◌, ◌+◌, ◌+
 ghost use Rattle.std.specs.List.{flat_map};
 ghost use Rattle.cup_sheet.specs.CupAnswers as sheets;
 ghost use Rattle.cup_sheet.specs.Cups.{IsCup};
-ghost use Rattle.cup_sheet.specs.KeyBounds as bounds;
-ghost use Rattle.cup_text.specs.CupForms.{most_cup_clubs};
+ghost use Rattle.cup_sheet.specs.CupLimits.{most_cup_clubs};
 ghost use Rattle.runners_up.specs.inside.GroupsAsked.{GroupNodes};
 ghost use Rattle.runners_up.specs.inside.GroupSurveys.{group_numbers};
-ghost use Rattle.cup_rows.specs.GroupTreeLines.{IsNodeWithin};
-ghost use Rattle.cup_rows.specs.VerdictLines.{club_trees_from, listed_group_lines};
-ghost use Rattle.cup_rows.specs.VerdictLines.{own_tree_lines, refuted_side_lines};
-ghost use Rattle.cup_rows.specs.VerdictLines.{refutation_heads, IsListedWithin};
-ghost use Rattle.cup_rows.specs.VerdictLines.{IsRefutationWithin};
+ghost use Rattle.cup_rows.specs.inside.GroupTreeLines.{IsNodeWithin};
+ghost use Rattle.cup_rows.specs.inside.VerdictLines.{club_trees_from, listed_group_lines};
+ghost use Rattle.cup_rows.specs.inside.VerdictLines.{own_tree_lines, refuted_side_lines};
+ghost use Rattle.cup_rows.specs.inside.VerdictLines.{refutation_heads, IsListedWithin};
+ghost use Rattle.cup_rows.specs.inside.VerdictLines.{IsRefutationWithin};
 
-use crate::start::{GroupStart, group_start};
 use crate::tree_lines::{cup_key, push_refutation};
+use cup_groups::{
+    ClubSeat, GroupStart, group_start, listed_groups, nearer_kind, others_kind, place_kind,
+};
 use cup_sheet::{Cup, GroupKind, GroupReason};
-use cup_sides::SideRefutation;
 use cup_text::{CupLine, GroupList};
 use depth_search::CaseNode;
 use league_core::{Claim, Listing, OutOfMemory};
-use runners_up::{ClubSeat, EmptyGroup, listed_groups};
+use runners_up::{EmptyGroup, SideRefutation};
 use std::alloc::Global;
 
 /// The lines that refute a side of the club that plays there.
-pub fn refuted_lines(
+pub(crate) fn refuted_lines(
     alloc: Global,
     cup: &Cup,
     claim: Claim,
@@ -92,8 +92,15 @@ fn push_own(
     let start = group_start(cup, seat.group);
     let place = place_kind(claim);
     push_refutation(alloc, lines, start, place, seat.own, found.place.as_slice())?;
-    let outer = outer_kind(claim);
-    push_refutation(alloc, lines, start, outer, seat.own, found.outer.as_slice())
+    let nearer = nearer_kind(claim);
+    push_refutation(
+        alloc,
+        lines,
+        start,
+        nearer,
+        seat.own,
+        found.nearer.as_slice(),
+    )
 }
 
 // The trees about the clubs of the listed groups.
@@ -155,34 +162,4 @@ fn push_club_trees(
         push_refutation(alloc, lines, start, kind, club as u8, nodes)?;
     }
     Ok(())
-}
-
-// What is asked of the club's place.
-fn place_kind(claim: Claim) -> GroupKind
-    ensures { result ≡ bounds.place_kind claim }
-{
-    match claim {
-        Claim::Inside => GroupKind::Top,
-        Claim::Outside => GroupKind::Below,
-    }
-}
-
-// What is asked of a key farther in.
-fn outer_kind(claim: Claim) -> GroupKind
-    ensures { result ≡ bounds.outer_kind claim }
-{
-    match claim {
-        Claim::Inside => GroupKind::SecondMore,
-        Claim::Outside => GroupKind::SecondLess,
-    }
-}
-
-// What is asked of the clubs of other groups.
-fn others_kind(claim: Claim) -> GroupKind
-    ensures { result ≡ bounds.others_kind claim }
-{
-    match claim {
-        Claim::Inside => GroupKind::SecondAtMost,
-        Claim::Outside => GroupKind::SecondAtLeast,
-    }
 }

@@ -1,24 +1,25 @@
 //! The trees of a group as lines.
 
 ghost use Rattle.std.specs.Prelude.{◌≡◌, ◌<◌, ◌≤◌, ◌+◌, ◌++◌, All, OnOk, IfOk, map};
-ghost use Rattle.cup_text.specs.CupForms.{most_cup_clubs};
-ghost use Rattle.cup_rows.specs.GroupTreeLines.{group_tree_lines, refuted_node_line};
-ghost use Rattle.cup_rows.specs.GroupTreeLines.{group_spent_lines, spent_node_line};
-ghost use Rattle.cup_rows.specs.GroupTreeLines.{key_of_question, cup_key, IsNodeWithin};
+ghost use Rattle.cup_sheet.specs.CupLimits.{most_cup_clubs};
+ghost use Rattle.cup_rows.specs.inside.GroupTreeLines.{group_tree_lines, refuted_node_line};
+ghost use Rattle.cup_rows.specs.inside.GroupTreeLines.{group_spent_lines, spent_node_line};
+ghost use Rattle.cup_rows.specs.inside.GroupTreeLines.{cup_key, IsNodeWithin};
+ghost use Rattle.cup_text.specs.CupItems.{key_of_question};
+ghost use Rattle.club_keys.specs.inside.KeyEnds.{key_parts};
 
 use crate::node_line::{leaf_in_cup, test_in_cup};
-use crate::start::GroupStart;
 use club_keys::ClubKey;
+use cup_groups::{GroupStart, KindQuestion};
 use cup_sheet::{GroupKind, GroupReason};
 use cup_text::{CupKey, CupLine};
 use depth_search::CaseNode;
-use group_search::KindQuestion;
 use league_core::{Listing, OutOfMemory};
 use std::alloc::Global;
 
 /// Adds the refutation of a question about a club of the group, by its number there, under its
 /// head.
-pub fn push_refutation(
+pub(crate) fn push_refutation(
     alloc: Global,
     lines: &mut Vec<CupLine>,
     start: GroupStart,
@@ -60,7 +61,7 @@ fn refuted_node_line(
 
 /// Adds a tree on which the budget for a question about the group was spent, all of it new, under
 /// its head.
-pub fn push_spent(
+pub(crate) fn push_spent(
     alloc: Global,
     lines: &mut Vec<CupLine>,
     start: GroupStart,
@@ -102,7 +103,8 @@ fn spent_node_line(
 
 // The key of a question, if its kind has one.
 fn key_of_question(alloc: Global, question: &KindQuestion) -> Result<Option<CupKey>, OutOfMemory>
-    ensures { IfOk result (λ key. key ≡ key_of_question question.now) }
+    ensures { IfOk result (λ key. key
+        ≡ key_of_question question.now.kind (key_parts question.now.key)) }
 {
     match question.kind {
         GroupKind::Top | GroupKind::Below => Ok(None),

@@ -2,29 +2,29 @@
 
 ghost use Rattle.std.specs.Prelude.{◌≡◌, ◌++◌, IfOk, OnOk};
 ghost use Rattle.cup_sheet.specs.Cups.{IsCup, AreSeasonsOf};
-ghost use Rattle.cup_rows.specs.VerdictLines.{open_side_lines, open_group_lines, verdict_lines};
-ghost use Rattle.cup_rows.specs.VerdictLines.{IsOpenSideWithin, IsOpenGroupWithin};
-ghost use Rattle.cup_rows.specs.VerdictLines.{IsVerdictWithin};
+ghost use Rattle.cup_rows.specs.inside.VerdictLines.{open_side_lines, open_group_lines};
+ghost use Rattle.cup_rows.specs.inside.VerdictLines.{verdict_lines};
+ghost use Rattle.cup_rows.specs.inside.VerdictLines.{IsOpenSideWithin, IsOpenGroupWithin};
+ghost use Rattle.cup_rows.specs.inside.VerdictLines.{IsVerdictWithin};
 
 use crate::joint_lines::push_joint;
 use crate::refuted::refuted_lines;
-use crate::start::group_start;
 use crate::tree_lines::push_spent;
+use cup_groups::{ClubSeat, group_start};
 use cup_sheet::Cup;
-use cup_sides::{CupVerdict, OpenSide};
 use cup_text::CupLine;
 use league_core::{Claim, OutOfMemory, Season};
-use runners_up::{ClubSeat, OpenGroup};
+use runners_up::{ClubFinding, OpenGroup, OpenSide};
 use std::alloc::Global;
 
 /// The lines that show a verdict on the club that plays there: what stands for qualifying before
 /// what stands for missing.
-pub fn verdict_lines(
+pub(crate) fn verdict_lines(
     alloc: Global,
     cup: &Cup,
     seasons: &[Season],
     seat: &ClubSeat,
-    verdict: &CupVerdict,
+    verdict: &ClubFinding,
 ) -> Result<Vec<CupLine>, OutOfMemory>
     requires cup { IsCup cup.now }
     requires seasons { AreSeasonsOf cup.now.groups seasons.now }
@@ -33,15 +33,15 @@ pub fn verdict_lines(
         ≡ verdict_lines cup.now seasons.now seat.now verdict.now) }
 {
     match verdict {
-        CupVerdict::Clinched(found) => refuted_lines(alloc, cup, Claim::Outside, seat, found),
-        CupVerdict::Lost(found) => refuted_lines(alloc, cup, Claim::Inside, seat, found),
-        CupVerdict::Possible { inside, outside } => {
+        ClubFinding::Clinched(found) => refuted_lines(alloc, cup, Claim::Outside, seat, found),
+        ClubFinding::Lost(found) => refuted_lines(alloc, cup, Claim::Inside, seat, found),
+        ClubFinding::Possible { inside, outside } => {
             let mut lines = Vec::new(alloc);
             push_joint(alloc, &mut lines, cup, Claim::Inside, seasons, inside)?;
             push_joint(alloc, &mut lines, cup, Claim::Outside, seasons, outside)?;
             Ok(lines)
         }
-        CupVerdict::Unsettled { inside, outside } => {
+        ClubFinding::Unsettled { inside, outside } => {
             let mut lines = Vec::new(alloc);
             push_side(alloc, &mut lines, cup, seasons, Claim::Inside, inside)?;
             push_side(alloc, &mut lines, cup, seasons, Claim::Outside, outside)?;

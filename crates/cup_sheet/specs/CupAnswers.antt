@@ -14,7 +14,7 @@ use Rattle.cup_sheet.specs.Qualifying.{qualifies_at}
 use Rattle.cup_sheet.specs.GroupQuestions.{GroupQuestion}
 use Rattle.cup_sheet.specs.GroupTrees.{GroupTree, are_all_new, IsGroupRefutation}
 use Rattle.cup_sheet.specs.GroupTrees.{IsFairlySpentGroupTree}
-use Rattle.cup_sheet.specs.KeyBounds.{IsAskedOnTheWay, place_kind, outer_kind, others_kind}
+use Rattle.cup_sheet.specs.KeyBounds.{IsAskedOnTheWay, place_kind, nearer_kind, others_kind}
 
 -- the group is one of the cup's, with its season, and the club, by its number there, is the club of
 -- the cup
@@ -85,6 +85,11 @@ abbrev pub listed_groups : Cup → Claim → ℕ
 listed_groups cup Outside = length cup.groups - cup.quota
 listed_groups cup Inside = cup.quota
 
+-- how many other groups have to have a candidate there for the club to be on its side with that key
+abbrev pub shown_groups : Cup → Claim → ℕ
+shown_groups cup Outside = cup.quota
+shown_groups cup Inside = length cup.groups - cup.quota
+
 -- a tree refutes the question about the group
 abbrev pub IsRefutedInGroup : GroupState → GroupQuestion → Type 0
 IsRefutedInGroup group question =
@@ -119,8 +124,8 @@ pub record IsCupRefuted (cup : Cup) (seasons : List Results) (claim : Claim) (cl
   pub of_club : IsClubOf cup seasons club mine own
   pub place : IsRefutedInGroup mine
       (record { kind = place_kind claim; club = own; key = [] })
-  pub outer : IsRefutedInGroup mine
-      (record { kind = outer_kind claim; club = own; key = key })
+  pub nearer : IsRefutedInGroup mine
+      (record { kind = nearer_kind claim; club = own; key = key })
   pub count : length listed ≡ listed_groups cup claim
   pub rising : AreRising 0 listed
   pub others : All (IsListedGroup cup seasons claim mine key) listed

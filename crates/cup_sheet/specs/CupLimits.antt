@@ -21,6 +21,14 @@ most_group_clubs = 6
 abbrev pub most_group_fixtures : ℕ
 most_group_fixtures = 60
 
+-- the most clubs of a cup: twelve groups of six
+abbrev pub most_cup_clubs : ℕ
+most_cup_clubs = 72
+
+-- the most fixtures of a cup: twelve groups of sixty
+abbrev pub most_cup_fixtures : ℕ
+most_cup_fixtures = 720
+
 -- so many places of each group qualify by themselves: the first alone. The club at the place after
 -- them is its group's candidate, compared with those of the other groups
 abbrev pub direct_places : ℕ

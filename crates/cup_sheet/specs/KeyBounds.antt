@@ -43,8 +43,8 @@ IsBeyond Outside bound key = IsTrue (is_key_from bound key)
 IsBeyond Inside bound key = IsTrue (is_key_from key bound)
 
 -- the club can be the candidate with this key, and each other such key is beyond it
-abbrev pub IsOutermostKey : ℕ → Sheet → Results → Claim → ℕ → List ℤ → Type 0
-IsOutermostKey direct sheet season claim club bound =
+abbrev pub IsNearestKey : ℕ → Sheet → Results → Claim → ℕ → List ℤ → Type 0
+IsNearestKey direct sheet season claim club bound =
     CanBeCandidateWith direct sheet season club bound
     × ((key : List ℤ) → CanBeCandidateWith direct sheet season club key → IsBeyond claim bound key)
 
@@ -52,7 +52,7 @@ IsOutermostKey direct sheet season claim club bound =
 -- qualifying; where it cannot be the candidate, the key that is beyond all
 abbrev pub IsTurningKey : ℕ → Sheet → Results → Claim → ℕ → List ℤ → Type 0
 IsTurningKey direct sheet season claim club bound =
-    IsOutermostKey direct sheet season claim club bound
+    IsNearestKey direct sheet season claim club bound
     ⊎ (((key : List ℤ) → ¬ CanBeCandidateWith direct sheet season club key)
     × (bound ≡ far_key claim))
 
@@ -124,9 +124,9 @@ halving_kind Outside = SecondAtMost
 halving_kind Inside = SecondAtLeast
 
 -- what shows that no key is before the turning key
-abbrev pub outer_kind : Claim → GroupKind
-outer_kind Outside = SecondLess
-outer_kind Inside = SecondMore
+abbrev pub nearer_kind : Claim → GroupKind
+nearer_kind Outside = SecondLess
+nearer_kind Inside = SecondMore
 
 -- what is asked of the clubs of other groups: that one of them is its group's candidate with a key
 -- no less than the turning key, or no greater
@@ -141,7 +141,7 @@ IsAskedOfClub sheet season claim club turning question =
     ⊎ (question ≡ record { kind = halving_kind claim; club = club; key = far_key claim })
     ⊎ ((key : List ℤ) × IsHalfwayKey sheet season claim club turning key
     × (question ≡ record { kind = halving_kind claim; club = club; key = key }))
-    ⊎ (question ≡ record { kind = outer_kind claim; club = club; key = turning })
+    ⊎ (question ≡ record { kind = nearer_kind claim; club = club; key = turning })
 
 -- those about a club of another group
 abbrev pub IsAskedOfOther : Claim → List ℤ → GroupState → GroupQuestion → Type 0

@@ -1,7 +1,6 @@
 -- Reading order: what a cup may be, the words for refusals, what a record makes of a cup, the cup
 -- of an input's contents, the seasons of its feed; then how a cup may end, who qualifies, what can
 -- be asked of one group, the trees that show it, the key on which it turns, what an answer shows.
--- No mode of the program answers cups yet, so no promise rests on these words.
 pub mod CupLimits
 pub mod Cups
 pub mod CupFaults

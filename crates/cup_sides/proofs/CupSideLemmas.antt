@@ -25,20 +25,20 @@ use Rattle.cup_sheet.specs.KeyBounds.{IsTurningKey, IsAskedOfClub}
 use Rattle.group_search.specs.inside.GroupLooks.{IsGroupExampleOf}
 use Rattle.group_search.specs.inside.GroupTasks.{IsGroupRefutedBy, IsGroupSpentOn}
 use Rattle.group_search.specs.inside.GroupTasks.{new_group_tree}
-use Rattle.group_search.specs.inside.KindQuestions.{group_question_of}
+use Rattle.cup_groups.specs.inside.KindQuestions.{group_question_of}
 use Rattle.turning_keys.specs.declared.turning.KeyEnd.{KeyEnd}
 use Rattle.turning_keys.specs.inside.KeyEndings.{IsKeyEnd, IsFoundKey, IsSpentKey}
 use Rattle.turning_keys.specs.inside.TurningQuestions.{halving_question}
 use Rattle.turning_keys.proofs.TurningKeyLemmas.{turning_key_exists}
 use Rattle.runners_up.specs.declared.others.SpentQuestion.{SpentQuestion}
-use Rattle.runners_up.specs.declared.seat.ClubSeat.{ClubSeat}
+use Rattle.cup_groups.specs.declared.seat.ClubSeat.{ClubSeat}
 use Rattle.runners_up.specs.declared.side.SideAtKey.{SideAtKey}
 use Rattle.runners_up.specs.declared.side.SideAtKey.TheVariants.{Shown, Refuted, Spent}
 use Rattle.runners_up.specs.declared.survey.OpenGroup.{OpenGroup}
-use Rattle.runners_up.specs.inside.ClubSeats.{IsSeatOf}
+use Rattle.cup_groups.specs.inside.ClubSeats.{IsSeatOf}
 use Rattle.runners_up.specs.inside.GroupsAsked.{GroupNodes, other_question}
 use Rattle.runners_up.specs.inside.GroupSurveys.{IsOpenGroup}
-use Rattle.runners_up.specs.inside.JointEnds.{clubs_before}
+use Rattle.cup_groups.specs.GroupStarts.{clubs_before}
 use Rattle.runners_up.specs.inside.SideLaws.{IsSideRefuted}
 use Rattle.runners_up.specs.inside.SidesAtKeys.{IsOwnEnd, IsSideAtKey}
 use Rattle.runners_up.specs.inside.SidesByPlace.{IsOwnGroup, asked_of_place}
@@ -46,7 +46,8 @@ use Rattle.runners_up.proofs.JointDrawnLemmas.{not_one_start}
 use Rattle.runners_up.proofs.JointShownLemmas.{starts_differ}
 use Rattle.runners_up.proofs.SideByPlaceLemmas.{own_inside}
 use Rattle.runners_up.proofs.SideLawLemmas.{state_in, state_of_number, club_of, sides_are_refuted}
-use Rattle.cup_sides.specs.inside.CupSides.{IsSideSpentBy, IsCupSide, IsSideOfSeat}
+use Rattle.cup_sides.specs.inside.CupSides.{IsCupSide, IsSideOfSeat}
+use Rattle.runners_up.specs.inside.ClubFindings.{IsSideSpentBy}
 use Rattle.cup_sides.specs.inside.CupSides.{whole_side}
 use Rattle.cup_sides.specs.inside.KeysOfSeats.{IsKeyOfSeat, IsPlaceRefuted}
 
@@ -179,14 +180,14 @@ module _ (cup : Cup) (seasons : List Results) (claim : Claim) (club : ℕ) (seat
 
   -- ---- all together
 
-  pub whole_is : (key : ClubKey) (example : Option Example) (place outer : GroupNodes) → IsCup cup
+  pub whole_is : (key : ClubKey) (example : Option Example) (place nearer : GroupNodes) → IsCup cup
       → IsGroupRefutedBy sheet season (asked_of_place claim seat.own) sheet.budget place.items
-      → IsFoundKey sheet season claim seat.own (key_parts key) example outer.items
+      → IsFoundKey sheet season claim seat.own (key_parts key) example nearer.items
       → (side : SideAtKey) → IsSideAtKey cup seasons seat claim (key_parts key) side
-      → IsCupSide cup seasons claim club (whole_side side key place outer)
-  whole_is key example place outer is_cup by_place found (Shown joint) is = is club at
-  whole_is key example place outer is_cup by_place found (Refuted listed) is =
-      let trees : IsSideRefuted cup seasons claim seat (key_parts key) place.items outer.items
+      → IsCupSide cup seasons claim club (whole_side side key place nearer)
+  whole_is key example place nearer is_cup by_place found (Shown joint) is = is club at
+  whole_is key example place nearer is_cup by_place found (Refuted listed) is =
+      let trees : IsSideRefuted cup seasons claim seat (key_parts key) place.items nearer.items
       listed.items = record {
         sheet = sheet;
         season = season;
@@ -203,9 +204,9 @@ module _ (cup : Cup) (seasons : List Results) (claim : Claim) (club : ℕ) (seat
         trees = trees;
         turning = found.turning;
         refuted = sides_are_refuted cup seasons claim club seat (key_parts key) place.items
-            outer.items listed.items is_cup at trees;
+            nearer.items listed.items is_cup at trees;
       }
-  whole_is key example place outer is_cup by_place found (Spent group) is =
+  whole_is key example place nearer is_cup by_place found (Spent group) is =
       other_spent (key_parts key) group is_cup found.turning is
 
 -- ---- the search for the key
@@ -235,13 +236,13 @@ place_at cup seasons seat claim sheet season nodes own is =
 
 -- with the trees about the club itself
 pub found_side : (cup : Cup) (seasons : List Results) (claim : Claim) (seat : ClubSeat)
-    (key : ClubKey) (example : Option Example) (place outer : GroupNodes) (sheet : Sheet)
+    (key : ClubKey) (example : Option Example) (place nearer : GroupNodes) (sheet : Sheet)
     (season : Results) → IsCup cup → IsOwnGroup cup seasons seat sheet season
     → IsPlaceRefuted cup seasons seat claim place.items
-    → IsFoundKey sheet season claim seat.own (key_parts key) example outer.items
+    → IsFoundKey sheet season claim seat.own (key_parts key) example nearer.items
     → (side : SideAtKey) → IsSideAtKey cup seasons seat claim (key_parts key) side
-    → IsSideOfSeat cup seasons claim seat (whole_side side key place outer)
-found_side cup seasons claim seat key example place outer sheet season is_cup own by_place found
+    → IsSideOfSeat cup seasons claim seat (whole_side side key place nearer)
+found_side cup seasons claim seat key example place nearer sheet season is_cup own by_place found
     side is club at =
-    whole_is cup seasons claim club seat sheet season at own key example place outer is_cup
+    whole_is cup seasons claim club seat sheet season at own key example place nearer is_cup
     (place_at cup seasons seat claim sheet season place.items own by_place) found side is

@@ -3,9 +3,8 @@
 use Rattle.std.proofs.Common.{◌≡◌, ℕ, zero, suc, ◌<◌, ℤ, pos, ◌-ℤ◌, ◌≤◌, ◌==◌, true}
 use Rattle.std.proofs.Common.{List, [], ◌∷◌, length, replicate, refl, sym, ap, subst}
 use Rattle.std.proofs.Common.{inl, inr, Some, arith}
-use Rattle.std.specs.Prelude.{◌+◌, All, slice_get, IsTrue, Bool, if◌then◌else◌, Option, None}
-use Rattle.std.specs.Option.{IsSome}
-use Rattle.std.proofs.lemmas.Bool.{and_parts, lt-ltb}
+use Rattle.std.specs.Prelude.{All, slice_get, IsTrue}
+use Rattle.std.proofs.lemmas.Bool.{and_parts}
 use Rattle.std.proofs.lemmas.Int.{ints}
 use Rattle.std.proofs.lemmas.Option.{none-some, same_Some, slice_get_within, get_or_from_slice_get}
 use Rattle.league_core.specs.declared.sheet.Sheet.{Sheet}
@@ -19,17 +18,17 @@ use Rattle.league_core.specs.inside.Extents.{IsNearZero}
 use Rattle.league_core.specs.search.Keys.{key_of, is_key_from, rank_part}
 use Rattle.tree_arena.specs.declared.example.Example.{Example}
 use Rattle.cup_sheet.specs.declared.cup.Cup.{Cup}
-use Rattle.cup_sheet.specs.CupAnswers.{listed_groups}
+use Rattle.cup_sheet.specs.CupAnswers.{shown_groups}
 use Rattle.cup_sheet.specs.CupLimits.{direct_places}
 use Rattle.cup_sheet.specs.Cups.{IsCup, IsGroup}
 use Rattle.cup_sheet.specs.GroupQuestions.{holds_in_group}
 use Rattle.cup_sheet.specs.KeyBounds.{far_key, far_part, others_kind, IsBeyond}
 use Rattle.cup_laws.specs.inside.CupTruths.{AreCupResults}
 use Rattle.turning_keys.proofs.FartherLemmas.{IsFartherIn, IsNoFartherIn, to_parts}
-use Rattle.turning_keys.proofs.KeyBoundLemmas.{AreWithinFar, key_within, rank_within}
+use Rattle.turning_keys.specs.inside.TurningLaws.{AreWithinFar}
+use Rattle.turning_keys.proofs.KeyBoundLemmas.{key_within, rank_within}
 use Rattle.runners_up.specs.declared.survey.GroupSurvey.{GroupSurvey}
-use Rattle.runners_up.specs.declared.survey.OpenGroup.{OpenGroup}
-use Rattle.runners_up.specs.inside.GroupSurveys.{IsSurveyed, AreAllCounted, own_among}
+use Rattle.runners_up.specs.inside.GroupSurveys.{IsSurveyed}
 use Rattle.runners_up.specs.inside.JointEnds.{AreGroupEnds, IsGroupEnd, HasFarCandidate}
 use Rattle.runners_up.specs.inside.JointEnds.{IsShownGroup}
 
@@ -141,24 +140,10 @@ none_shown cup seasons claim key mine before count survey is_cup results far is 
     (subst (λ (it : List ℤ). HasFarCandidate claim it shown.0 shown.1) far shown.5))
     survey.shown.items is.shown
 
--- ---- how many are listed
+-- ---- how many are shown
 
--- all other groups are as many as refute a side
-all_others : (cup : Cup) (claim : Claim) (listed : ℕ) → IsCup cup
-    → listed + 1 ≡ length cup.groups → listed_groups cup claim ≤ listed
-all_others cup Outside listed is_cup all = omega (arith, is_cup.least_quota, all)
-all_others cup Inside listed is_cup all = omega (arith, is_cup.most_quota, all)
-
--- so if fewer are listed and none is shown, one is not known
-pub some_unknown : (cup : Cup) (seasons : List Results) (claim : Claim) (key : List ℤ)
-    (mine count shown listed : ℕ) (unknown : Option OpenGroup) → IsCup cup
-    → count ≡ length cup.groups → mine < count → shown ≡ 0 → listed < listed_groups cup claim
-    → AreAllCounted cup seasons claim key mine count shown listed unknown → IsSome unknown
-some_unknown cup seasons claim key mine count shown listed (Some group) is_cup all inside none
-    less known = refl
-some_unknown cup seasons claim key mine count shown listed None is_cup all inside none less
-    known =
-    let own : own_among mine count ≡ 1 =
-    ap (λ (b : Bool). if b then 1 else 0) (lt-ltb mine count inside) in
-    let enough = all_others cup claim listed is_cup (omega (arith, known, own, none, all)) in
-    absurd (omega (arith, less, enough))
+-- none is too few
+pub none_is_few : (cup : Cup) (claim : Claim) (shown : ℕ) → IsCup cup → shown ≡ 0
+    → shown < shown_groups cup claim
+none_is_few cup Outside shown is_cup none = omega (arith, is_cup.least_quota, none)
+none_is_few cup Inside shown is_cup none = omega (arith, is_cup.most_quota, none)

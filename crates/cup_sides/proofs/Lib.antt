@@ -2,4 +2,4 @@
 -- contract, and what both come to.
 pub mod FarKeyLemmas
 pub mod CupSideLemmas
-pub mod CupVerdictLemmas
+pub mod ClubFindingLemmas

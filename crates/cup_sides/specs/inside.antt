@@ -1,4 +1,3 @@
 -- What a side of a club of a cup comes to; its turning key; what is known of the club.
 pub mod CupSides
 pub mod KeysOfSeats
-pub mod CupVerdicts

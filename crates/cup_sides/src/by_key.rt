@@ -3,17 +3,18 @@
 ghost use Rattle.std.specs.Prelude.{◌≡◌, IfOk};
 ghost use Rattle.club_keys.specs.inside.KeyEnds.{key_parts};
 ghost use Rattle.cup_sheet.specs.Cups.{IsCup, AreSeasonsOf};
-ghost use Rattle.runners_up.specs.inside.ClubSeats.{IsSeatIn};
+ghost use Rattle.cup_groups.specs.inside.ClubSeats.{IsSeatIn};
 ghost use Rattle.cup_sides.specs.inside.CupSides.{IsSideOfSeat};
 ghost use Rattle.cup_sides.specs.inside.KeysOfSeats.{IsKeyOfSeat, IsPlaceRefuted};
 
 use crate::cup_side::{CupSide, whole_side};
 use crate::far::side_at;
 use club_keys::ClubKey;
+use cup_groups::ClubSeat;
 use cup_sheet::{Cup, GroupReason};
 use depth_search::CaseNode;
 use league_core::{Claim, OutOfMemory, Season};
-use runners_up::{ClubSeat, FarSide, OpenGroup, SpentQuestion};
+use runners_up::{FarSide, OpenGroup, SpentQuestion};
 use std::alloc::Global;
 use turning_keys::{KeyEnd, turning_key};
 

@@ -4,15 +4,15 @@ ghost use Rattle.std.specs.Prelude.{◌≡◌, IfOk};
 ghost use Rattle.club_keys.specs.inside.KeyEnds.{key_parts};
 ghost use Rattle.cup_sheet.specs.Cups.{IsCup, AreSeasonsOf};
 ghost use Rattle.cup_sheet.specs.KeyBounds.{far_key};
-ghost use Rattle.runners_up.specs.inside.ClubSeats.{IsSeatIn};
+ghost use Rattle.cup_groups.specs.inside.ClubSeats.{IsSeatIn};
 ghost use Rattle.runners_up.specs.inside.SidesAtKeys.{IsSideAtKey};
 ghost use Rattle.cup_sides.specs.inside.KeysOfSeats.{IsExampleOfSeat};
 
-use crate::results::have_results;
+use cup_groups::{ClubSeat, listed_groups};
 use cup_sheet::Cup;
 use league_core::{OutOfMemory, Season};
 use runners_up::{
-    ClubSeat, FarSide, GroupSurvey, SideAtKey, any_ends, listed_groups, side_at_key, survey_groups,
+    FarSide, GroupSurvey, SideAtKey, any_ends, have_results, side_at_key, survey_groups,
 };
 use std::alloc::Global;
 use tree_arena::Example;

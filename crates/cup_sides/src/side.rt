@@ -6,9 +6,10 @@ ghost use Rattle.cup_sides.specs.inside.CupSides.{IsCupSide};
 
 use crate::by_key::side_by_key;
 use crate::cup_side::CupSide;
+use cup_groups::seat_of;
 use cup_sheet::Cup;
 use league_core::{Claim, OutOfMemory, Season};
-use runners_up::{OpenGroup, SideByPlace, seat_of, side_by_place};
+use runners_up::{OpenGroup, SideByPlace, side_by_place};
 use std::alloc::Global;
 
 /// Whether a club, by its number in the cup from 0, can be on a side at the end. Each question has

@@ -29,7 +29,8 @@ use Rattle.cup_text.specs.declared.cup_line.CupLeaf.{CupLeaf}
 use Rattle.cup_text.specs.declared.cup_line.CupLeaf.TheVariants.{Plain, In, Out, ByKey}
 use Rattle.cup_text.specs.declared.cup_line.CupLine.{CupLine}
 use Rattle.cup_text.specs.declared.cup_line.CupLine.TheVariants as line
-use Rattle.cup_text.specs.CupForms.{most_cup_clubs, most_cup_fixtures, is_rising, rising_list}
+use Rattle.cup_text.specs.CupForms.{is_rising, rising_list}
+use Rattle.cup_sheet.specs.CupLimits.{most_cup_clubs, most_cup_fixtures}
 use Rattle.cup_text.specs.CupForms.{if_part, listed_parts, key_list, cup_leaf_in}
 use Rattle.cup_text.specs.CupForms.{kind_named, group_spent_of}
 use Rattle.cup_text.specs.CupForms.{cup_line_of_value}

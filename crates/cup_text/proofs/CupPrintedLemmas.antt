@@ -30,7 +30,8 @@ use Rattle.cup_text.specs.declared.cup_line.CupLeaf.{CupLeaf}
 use Rattle.cup_text.specs.declared.cup_line.CupLeaf.TheVariants.{Plain, In, Out, ByKey}
 use Rattle.cup_text.specs.declared.cup_line.CupLine.{CupLine}
 use Rattle.cup_text.specs.declared.cup_line.CupLine.TheVariants as line
-use Rattle.cup_text.specs.CupForms.{most_cup_clubs, most_cup_fixtures, is_rising}
+use Rattle.cup_text.specs.CupForms.{is_rising}
+use Rattle.cup_sheet.specs.CupLimits.{most_cup_clubs, most_cup_fixtures}
 use Rattle.cup_text.specs.CupLines.{cup_reason_parts, cup_leaf_parts, kind_word, cup_parts_of}
 use Rattle.cup_text.specs.CupLines.{cup_key_of, key_text, text_with_key, text_of_cup_line}
 use Rattle.cup_text.specs.CupRanges.{is_cup_club, is_rising_below, is_key_part, is_cup_key}

@@ -1,5 +1,6 @@
 -- The JSON text of a line's value is the line's text; it is printed; and it is read back as the
--- line.
+-- line. The splits of written trees.
 pub mod CupTextLemmas
 pub mod CupPrintedLemmas
 pub mod CupBackLemmas
+pub mod ProperSplitLemmas

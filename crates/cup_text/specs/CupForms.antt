@@ -11,7 +11,7 @@ use Rattle.league_core.specs.game.Limits.{most_goals}
 use Rattle.cert_text.specs.declared.proof_line.ClubList.{ClubList}
 use Rattle.cert_text.specs.Forms.{if_ends_at, test_below_in, json_of}
 use Rattle.cert_text.specs.Places.{word_at, integer_at, numbered_at, claim_at, clubs_at}
-use Rattle.cup_sheet.specs.CupLimits.{most_groups}
+use Rattle.cup_sheet.specs.CupLimits.{most_cup_clubs, most_cup_fixtures, most_groups}
 use Rattle.cup_sheet.specs.GroupQuestions.{is_of_place}
 use Rattle.cup_sheet.specs.declared.question.GroupKind.{GroupKind}
 use Rattle.cup_sheet.specs.declared.question.GroupKind.TheVariants.{Top, Below, SecondLess}
@@ -24,14 +24,6 @@ use Rattle.cup_text.specs.declared.cup_line.CupLeaf.{CupLeaf}
 use Rattle.cup_text.specs.declared.cup_line.CupLeaf.TheVariants.{Plain, In, Out, ByKey}
 use Rattle.cup_text.specs.declared.cup_line.CupLine.{CupLine}
 use Rattle.cup_text.specs.declared.cup_line.CupLine.TheVariants as line
-
--- the most clubs of a cup: twelve groups of six
-abbrev pub most_cup_clubs : ℕ
-most_cup_clubs = 72
-
--- the most fixtures of a cup: twelve groups of sixty
-abbrev pub most_cup_fixtures : ℕ
-most_cup_fixtures = 720
 
 -- ---- lists
 

@@ -15,7 +15,8 @@ use Rattle.cup_text.specs.declared.cup_line.CupLeaf.{CupLeaf}
 use Rattle.cup_text.specs.declared.cup_line.CupLeaf.TheVariants.{Plain, In, Out, ByKey}
 use Rattle.cup_text.specs.declared.cup_line.CupLine.{CupLine}
 use Rattle.cup_text.specs.declared.cup_line.CupLine.TheVariants as line
-use Rattle.cup_text.specs.CupForms.{most_cup_clubs, most_cup_fixtures, most_part, is_rising}
+use Rattle.cup_text.specs.CupForms.{most_part, is_rising}
+use Rattle.cup_sheet.specs.CupLimits.{most_cup_clubs, most_cup_fixtures}
 
 -- a club of a cup
 abbrev pub is_cup_club : ℕ → Bool

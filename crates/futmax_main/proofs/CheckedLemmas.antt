@@ -11,6 +11,7 @@ use Rattle.cert_check.specs.declared.outcome.ReportFault.TheVariants.{Short}
 use Rattle.cert_check.specs.declared.outcome.CheckOutcome.TheVariants as outcome
 use Rattle.run_ends.specs.declared.status.Status.TheVariants.{Done, BadSheet, BadFeed}
 use Rattle.run_ends.specs.declared.status.Status.TheVariants.{NotProved, TooLong}
+use Rattle.futmax_main.specs.Checks.{report_judge}
 use Rattle.futmax_main.specs.Modes.{IsChecked}
 
 -- a line of these words
@@ -24,26 +25,27 @@ pair_sheet =
     ++ (ended_line (codes "club,B,2") ++ ended_line (codes "season")))
 
 -- without an ask, the empty report is accepted
-pub checked-done : (kind : ReportKind) → IsChecked kind (pair_sheet ++ ended_line (codes "proofs"))
-    Done
+pub checked-done : (kind : ReportKind)
+    → IsChecked (report_judge kind) (pair_sheet ++ ended_line (codes "proofs")) Done
 unfolding next_record strip_bom is_utf8 chars encode
 checked-done kind = (outcome.Accepted 0 0, refl, refl)
 
 -- no report comes
-pub checked-not_proved : (kind : ReportKind) → IsChecked kind pair_sheet NotProved
+pub checked-not_proved : (kind : ReportKind) → IsChecked (report_judge kind) pair_sheet NotProved
 unfolding next_record strip_bom is_utf8 chars encode
 checked-not_proved kind = (outcome.Refused 5 Short, refl, refl)
 
 -- no sheet stands in an empty input
-pub checked-bad_sheet : (kind : ReportKind) → IsChecked kind [] BadSheet
+pub checked-bad_sheet : (kind : ReportKind) → IsChecked (report_judge kind) [] BadSheet
 checked-bad_sheet kind = (outcome.BadSheet 1 NoLeague, refl, refl)
 
 -- a word that no feed has
-pub checked-bad_feed : (kind : ReportKind) → IsChecked kind (pair_sheet ++ ended_line (codes "x"))
-    BadFeed
+pub checked-bad_feed : (kind : ReportKind)
+    → IsChecked (report_judge kind) (pair_sheet ++ ended_line (codes "x")) BadFeed
 unfolding next_record strip_bom is_utf8 chars encode
 checked-bad_feed kind = (outcome.BadFeed 5 UnknownRecord, refl, refl)
 
 -- a line of 1025 bytes
-pub checked-too_long : (kind : ReportKind) → IsChecked kind (replicate 1025 97) TooLong
+pub checked-too_long : (kind : ReportKind)
+    → IsChecked (report_judge kind) (replicate 1025 97) TooLong
 checked-too_long kind = (outcome.LineTooLong 1, refl, refl)

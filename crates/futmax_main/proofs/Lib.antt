@@ -1,5 +1,7 @@
--- What is earned, a check, and the modes.
+-- What is earned, a check, the answers of a cup, and the modes.
 pub mod EarnedLemmas
 pub mod CheckLemmas
 pub mod CheckedLemmas
+pub mod GroupsAnsweredLemmas
+pub mod FoundClubLemmas
 pub mod ModeLemmas

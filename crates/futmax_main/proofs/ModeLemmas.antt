@@ -9,57 +9,86 @@ use Rattle.run_ends.specs.declared.status.Status.TheVariants.{NotProved, TooLong
 use Rattle.command_words.specs.declared.command.Mode.{Mode}
 use Rattle.command_words.specs.declared.command.Mode.TheVariants.{Verdicts, Table, Scores, WhatIf}
 use Rattle.command_words.specs.declared.command.Mode.TheVariants.{Save, Resume, Decide, Check}
-use Rattle.command_words.specs.declared.command.Mode.TheVariants.{Sample}
+use Rattle.command_words.specs.declared.command.Mode.TheVariants.{Groups, Sample}
 use Rattle.cert_check.specs.declared.expected.ReportKind.{ReportKind}
-use Rattle.futmax_main.specs.Checks.{ServesCheck, kind_of_check}
+use Rattle.futmax_main.specs.Checks.{Judge, ServesCheck, kind_of_check, report_judge}
+use Rattle.futmax_main.specs.CupModes.{groups_kind}
 use Rattle.futmax_main.specs.SampleRows.{ServesSample}
-use Rattle.session_turns.specs.Top.{Serves}
-use Rattle.session_turns.specs.LastReads.{StopsAs, StopsSession}
-use Rattle.futmax_main.specs.Modes.{IsCheckSettled, IsSettledAs, ReadsNothing, ServesAs}
-use Rattle.session_turns.specs.inside.Turns.{MayEndAs, MayEndSession}
+use Rattle.futmax_main.specs.Modes.{IsChecked, IsCheckMode, IsCheckSettled, IsSettledAs}
+use Rattle.futmax_main.specs.Modes.{ReadsNothing, ServesAs, StopsAs}
+use Rattle.futmax_main.specs.inside.ModeEnds.{MayEndAs}
+use Rattle.cup_turns.proofs.CupEarnedLemmas.{cup-settled}
+use Rattle.futmax_main.specs.CupModes.{IsGroupsAnswer}
 use Rattle.futmax_main.proofs.EarnedLemmas.{settled}
+use Rattle.futmax_main.proofs.GroupsAnsweredLemmas.{groups-answered}
 use Rattle.futmax_main.proofs.CheckedLemmas.{checked-bad_feed, checked-bad_sheet, checked-done}
 use Rattle.futmax_main.proofs.CheckedLemmas.{checked-not_proved, checked-too_long, ended_line}
 use Rattle.futmax_main.proofs.CheckedLemmas.{pair_sheet}
-use Rattle.session_turns.proofs.TurnLemmas.{serves-nothing}
 use Rattle.futmax_main.proofs.CheckLemmas.{check-starved}
 use Rattle.league_core.proofs.plain.Streams.{append_known-nothing}
+use Rattle.run_ends.proofs.RunEndLemmas.{serves-nothing}
+use Rattle.run_ends.specs.LastReads.{StopsSession}
+use Rattle.run_ends.specs.Runs.{Serves}
+use Rattle.run_ends.specs.inside.RunTurns.{MayEndSession}
+use Rattle.session_turns.proofs.AnsweredLemmas.{session-answered}
+use Rattle.session_turns.specs.LastReads.{LeadSession}
+use Rattle.cup_turns.specs.CupLastReads.{LeadCup}
+use Rattle.session_turns.specs.Texts.{session_kind}
+use Rattle.run_ends.proofs.StandLemmas.{stops-nothing}
+
+-- some input is checked with each status that it may have
+record AreChecked {Outcome : Type 0} (judge : Judge Outcome) : Type 0 where
+  done : (input : List ℕ) × IsChecked judge input Done
+  bad_sheet : (input : List ℕ) × IsChecked judge input BadSheet
+  bad_feed : (input : List ℕ) × IsChecked judge input BadFeed
+  not_proved : (input : List ℕ) × IsChecked judge input NotProved
+  too_long : (input : List ℕ) × IsChecked judge input TooLong
+
+-- of reports
+reports-checked : (kind : ReportKind) → AreChecked (report_judge kind)
+reports-checked kind = record {
+  done = (pair_sheet ++ ended_line (codes "proofs"), checked-done kind);
+  bad_sheet = ([], checked-bad_sheet kind);
+  bad_feed = (pair_sheet ++ ended_line (codes "x"), checked-bad_feed kind);
+  not_proved = (pair_sheet, checked-not_proved kind);
+  too_long = (replicate 1025 97, checked-too_long kind);
+}
 
 -- the status of a check in which no device failed
-check-settled : (kind : ReportKind) (input left old now : Option (List ℕ)) (status : Status)
-    → ServesCheck kind input left old now status → status ≢ BadWords → status ≢ ReadFault
-    → status ≢ WriteFault → IsCheckSettled kind input status
-check-settled kind None left old now Done serves words read write = inl
-    (pair_sheet ++ ended_line (codes "proofs"), checked-done kind)
-check-settled kind None left old now BadWords serves words read write = absurd (words refl)
-check-settled kind None left old now BadSheet serves words read write = inl (
-  [],
-  checked-bad_sheet
-      kind,
-)
-check-settled kind None left old now BadFeed serves words read write = inl
-    (pair_sheet ++ ended_line (codes "x"), checked-bad_feed kind)
-check-settled kind None left old now ReadFault serves words read write = absurd (read refl)
-check-settled kind None left old now WriteFault serves words read write = absurd (write refl)
-check-settled kind None left old now OutOfMemory serves words read write = inr refl
-check-settled kind None left old now NotProved serves words read write = inl
-    (pair_sheet, checked-not_proved kind)
-check-settled kind None left old now TooLong serves words read write = inl
-    (replicate 1025 97, checked-too_long kind)
-check-settled kind (Some input) left old now Done serves words read write =
+check-settled : {Outcome : Type 0} (judge : Judge Outcome) → AreChecked judge
+    → (input left old now : Option (List ℕ)) (status : Status)
+    → ServesCheck judge input left old now status → status ≢ BadWords → status ≢ ReadFault
+    → status ≢ WriteFault → IsCheckSettled judge input status
+check-settled judge known None left old now Done serves words read write = inl known.done
+check-settled judge known None left old now BadWords serves words read write =
+    absurd (words refl)
+check-settled judge known None left old now BadSheet serves words read write =
+    inl known.bad_sheet
+check-settled judge known None left old now BadFeed serves words read write = inl known.bad_feed
+check-settled judge known None left old now ReadFault serves words read write =
+    absurd (read refl)
+check-settled judge known None left old now WriteFault serves words read write =
+    absurd (write refl)
+check-settled judge known None left old now OutOfMemory serves words read write = inr refl
+check-settled judge known None left old now NotProved serves words read write =
+    inl known.not_proved
+check-settled judge known None left old now TooLong serves words read write = inl known.too_long
+check-settled judge known (Some input) left old now Done serves words read write =
     let text = serves.2.0 in inl (text.0, text.1, text.2)
-check-settled kind (Some input) left old now BadWords serves words read write = absurd (words refl)
-check-settled kind (Some input) left old now BadSheet serves words read write =
+check-settled judge known (Some input) left old now BadWords serves words read write =
+    absurd (words refl)
+check-settled judge known (Some input) left old now BadSheet serves words read write =
     let text = serves.2 in inl (text.0, text.1, text.2)
-check-settled kind (Some input) left old now BadFeed serves words read write =
+check-settled judge known (Some input) left old now BadFeed serves words read write =
     let text = serves.2 in inl (text.0, text.1, text.2)
-check-settled kind (Some input) left old now ReadFault serves words read write = absurd (read refl)
-check-settled kind (Some input) left old now WriteFault serves words read write = absurd (write
-    refl)
-check-settled kind (Some input) left old now OutOfMemory serves words read write = inr refl
-check-settled kind (Some input) left old now NotProved serves words read write =
+check-settled judge known (Some input) left old now ReadFault serves words read write =
+    absurd (read refl)
+check-settled judge known (Some input) left old now WriteFault serves words read write =
+    absurd (write refl)
+check-settled judge known (Some input) left old now OutOfMemory serves words read write = inr refl
+check-settled judge known (Some input) left old now NotProved serves words read write =
     let text = serves.2.0 in inl (text.0, text.1, text.2)
-check-settled kind (Some input) left old now TooLong serves words read write =
+check-settled judge known (Some input) left old now TooLong serves words read write =
     let text = serves.2 in inl (text.0, text.1, text.2)
 
 -- of a sample
@@ -82,7 +111,10 @@ pub mode-settled : (mode : Mode) (input left : Option (List ℕ)) (told : Bool)
     → ServesAs (Some mode) input left told old now status → MayEndAs mode status
     → status ≢ ReadFault → status ≢ WriteFault → IsSettledAs (Some mode) input status
 mode-settled (Check wide) input left told old now status serves may read write =
-    check-settled (kind_of_check wide) input left old now status serves may read write
+    check-settled (report_judge (kind_of_check wide)) (reports-checked (kind_of_check wide)) input
+    left old now status serves may read write
+mode-settled (Groups proofs) input left told old now status serves may read write =
+    cup-settled (IsGroupsAnswer proofs) input left told old now status serves may read write
 mode-settled (Sample seed) input left told old now status serves may read write =
     sample-settled seed old now input status serves write
 mode-settled mode input left told old now status serves may read write =
@@ -93,9 +125,24 @@ pub serves_as-no_memory : (mode : Option Mode) (input left : Option (List ℕ)) 
     (old : Option (List ℕ)) → ServesAs mode input left told old old OutOfMemory
 serves_as-no_memory None input left told old = ([], append_known-nothing old, refl)
 serves_as-no_memory (Some (Check wide)) input left told old =
-    check-starved (kind_of_check wide) input left old
+    check-starved (report_judge (kind_of_check wide)) input left old
+serves_as-no_memory (Some (Groups proofs)) input left told old =
+    serves-nothing (groups_kind proofs) (groups-answered proofs) input left told old
 serves_as-no_memory (Some (Sample seed)) input left told old = refl
-serves_as-no_memory (Some mode) input left told old = serves-nothing mode input left told old
+serves_as-no_memory (Some mode) input left told old = serves-nothing (session_kind mode)
+    (session-answered mode) input left told old
+
+-- nothing was read
+pub stops-unread : {S : Type 0} (left : S → Option (List ℕ)) (reads : S → List ℕ → S → Type 0)
+    (mode : Option Mode) (source : S) (status : Status)
+    → StopsAs left reads mode source source status
+stops-unread left reads None source status = tt
+stops-unread left reads (Some (Check wide)) source status = tt
+stops-unread left reads (Some (Sample seed)) source status = tt
+stops-unread left reads (Some (Groups proofs)) source status =
+    stops-nothing left reads LeadCup source status
+stops-unread left reads (Some mode) source status =
+    stops-nothing left reads (LeadSession mode) source status
 
 -- running out of memory is a status of any run
 pub settled_as-no_memory : (mode : Option Mode) (input : Option (List ℕ))
@@ -103,14 +150,16 @@ pub settled_as-no_memory : (mode : Option Mode) (input : Option (List ℕ))
 settled_as-no_memory None input = inr refl
 settled_as-no_memory (Some (Check wide)) None = inr refl
 settled_as-no_memory (Some (Check wide)) (Some input) = inr refl
+settled_as-no_memory (Some (Groups proofs)) None = inr refl
+settled_as-no_memory (Some (Groups proofs)) (Some input) = inr refl
 settled_as-no_memory (Some (Sample seed)) input = inr refl
 settled_as-no_memory (Some mode) None = inr refl
 settled_as-no_memory (Some mode) (Some input) = inr refl
 
 -- only a check says that a report is no proof
 pub only_checks : (mode : Mode) (status : Status) → MayEndAs mode status → status ≡ NotProved
-    → (wide : Bool) × (mode ≡ Check wide)
-only_checks (Check wide) status may is = (wide, refl)
+    → IsCheckMode mode
+only_checks (Check wide) status may is = tt
 only_checks mode status may is = absurd (subst MayEndSession is may)
 
 -- ---- the modes that answer asks
@@ -144,11 +193,11 @@ asking P verdicts table scores what_if save resume decide mode
 -- a session serves as its mode has to
 pub session-serves : (mode : Mode) (input left : Option (List ℕ)) (told : Bool)
     (old now : Option (List ℕ)) (status : Status) → AnswersAsks mode
-    → Serves mode input left told old now status
+    → Serves (session_kind mode) input left told old now status
     → ServesAs (Some mode) input left told old now status
 session-serves mode input left told old now status is =
     let P : Mode → Type 0 =
-    λ m. Serves m input left told old now status
+    λ m. Serves (session_kind m) input left told old now status
     → ServesAs (Some m) input left told old now status in
     asking P (λ proofs serves. serves) (λ serves. serves) (λ serves. serves)
     (λ serves. serves) (λ serves. serves) (λ proofs serves. serves) (λ proofs serves. serves) mode
@@ -157,11 +206,11 @@ session-serves mode input left told old now status is =
 -- and stops so
 pub session-stops : {S : Type 0} (left : S → Option (List ℕ)) (reads : S → List ℕ → S → Type 0)
     (mode : Mode) (before after : S) (status : Status) → AnswersAsks mode
-    → StopsSession left reads mode before after status
+    → StopsSession left reads (LeadSession mode) before after status
     → StopsAs left reads (Some mode) before after status
 session-stops left reads mode before after status is =
     let P : Mode → Type 0 =
-    λ m. StopsSession left reads m before after status
+    λ m. StopsSession left reads (LeadSession m) before after status
     → StopsAs left reads (Some m) before after status in
     asking P (λ proofs stops. stops) (λ stops. stops) (λ stops. stops) (λ stops. stops)
     (λ stops. stops) (λ proofs stops. stops) (λ proofs stops. stops) mode is

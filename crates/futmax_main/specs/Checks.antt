@@ -4,7 +4,7 @@ use Rattle.std.specs.Prelude.{◌≡◌, ℕ, Bool, true, false, List, [], ◌�
 use Rattle.std.specs.Prelude.{decimal}
 use Rattle.std.specs.Io.KnownBytes.{append_known}
 use Rattle.port_core.specs.Ports.{IsBytePrefix}
-use Rattle.port_core.specs.Contents.{contents_of}
+use Rattle.port_core.specs.Contents.{Contents, contents_of}
 use Rattle.cert_text.specs.Rows.{text_of_row}
 use Rattle.cert_check.specs.declared.expected.ReportKind.{ReportKind}
 use Rattle.cert_check.specs.declared.expected.ReportKind.TheVariants.{Plain, Wide}
@@ -57,33 +57,46 @@ abbrev pub kind_of_check : Bool → ReportKind
 kind_of_check true = Wide
 kind_of_check false = Plain
 
--- an input with a report of this kind comes to this
-abbrev pub ComesTo : ReportKind → List ℕ → CheckOutcome → Type 0
-ComesTo kind input outcome = outcome_of kind (contents_of input) ≡ Some outcome
+-- how a report is judged: what the contents of an input come to, once it is known, the one row that
+-- is written for it, and the status
+pub record Judge (Outcome : Type 0) : Type 0 where
+  pub comes : Contents → Option Outcome
+  pub row : Outcome → List ℕ
+  pub status : Outcome → Status
+
+-- a report of this kind on a league
+abbrev pub report_judge : ReportKind → Judge CheckOutcome
+report_judge kind =
+    record { comes = outcome_of kind; row = check_row; status = status_of_check }
+
+-- an input with a report comes to this
+abbrev pub ComesTo : {Outcome : Type 0} → Judge Outcome → List ℕ → Outcome → Type 0
+ComesTo judge input outcome = judge.comes (contents_of input) ≡ Some outcome
 
 -- the whole text of a check of this input, which has this status
-abbrev pub IsCheckText : ReportKind → List ℕ → Status → List ℕ → Type 0
-IsCheckText kind input status text =
-    (outcome : CheckOutcome) × ComesTo kind input outcome × (status_of_check outcome ≡ status)
-    × (text ≡ check_row outcome)
+abbrev pub IsCheckText : {Outcome : Type 0} → Judge Outcome → List ℕ → Status → List ℕ → Type 0
+IsCheckText {Outcome} judge input status text =
+    (outcome : Outcome) × ComesTo judge input outcome × (judge.status outcome ≡ status)
+    × (text ≡ judge.row outcome)
 
 -- what was written if a check of this input ends with this status, by what the source has left:
 -- nothing if the source failed, or memory ran out; nothing is left where a report was judged
-abbrev pub CheckEnds : ReportKind → List ℕ → Option (List ℕ) → Status → List ℕ → Type 0
-CheckEnds kind input left status.Done text =
-    IsCheckText kind input status.Done text × (left ≡ Some [])
-CheckEnds kind input left status.ReadFault text = text ≡ []
-CheckEnds kind input left status.WriteFault text =
-    (outcome : CheckOutcome) × ComesTo kind input outcome × IsBytePrefix text (check_row outcome)
-CheckEnds kind input left status.OutOfMemory text = text ≡ []
-CheckEnds kind input left status.NotProved text =
-    IsCheckText kind input status.NotProved text × (left ≡ Some [])
-CheckEnds kind input left status text = IsCheckText kind input status text
+abbrev pub CheckEnds : {Outcome : Type 0} → Judge Outcome → List ℕ → Option (List ℕ) → Status
+    → List ℕ → Type 0
+CheckEnds judge input left status.Done text =
+    IsCheckText judge input status.Done text × (left ≡ Some [])
+CheckEnds judge input left status.ReadFault text = text ≡ []
+CheckEnds {Outcome} judge input left status.WriteFault text =
+    (outcome : Outcome) × ComesTo judge input outcome × IsBytePrefix text (judge.row outcome)
+CheckEnds judge input left status.OutOfMemory text = text ≡ []
+CheckEnds judge input left status.NotProved text =
+    IsCheckText judge input status.NotProved text × (left ≡ Some [])
+CheckEnds judge input left status text = IsCheckText judge input status text
 
 -- the sink's bytes before and after a check, by what the source had left and has left; nothing is
 -- said if the source exposes none
-abbrev pub ServesCheck : ReportKind → Option (List ℕ) → Option (List ℕ) → Option (List ℕ)
-    → Option (List ℕ) → Status → Type 0
-ServesCheck kind None left old new status = Unit {0}
-ServesCheck kind (Some input) left old new status =
-    (text : List ℕ) × (new ≡ append_known old text) × CheckEnds kind input left status text
+abbrev pub ServesCheck : {Outcome : Type 0} → Judge Outcome → Option (List ℕ) → Option (List ℕ)
+    → Option (List ℕ) → Option (List ℕ) → Status → Type 0
+ServesCheck judge None left old new status = Unit {0}
+ServesCheck judge (Some input) left old new status =
+    (text : List ℕ) × (new ≡ append_known old text) × CheckEnds judge input left status text

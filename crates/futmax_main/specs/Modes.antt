@@ -2,13 +2,16 @@
 -- text is written, that a report is checked, or that a sample is made.
 use Rattle.std.specs.Prelude.{◌≡◌, ℕ, Bool, ◌⊎◌, List, Option, Some, None}
 use Rattle.command_words.specs.declared.command.Mode.{Mode}
-use Rattle.command_words.specs.declared.command.Mode.TheVariants.{Check, Sample}
-use Rattle.cert_check.specs.declared.expected.ReportKind.{ReportKind}
-use Rattle.cert_check.specs.declared.outcome.CheckOutcome.{CheckOutcome}
+use Rattle.command_words.specs.declared.command.Mode.TheVariants.{Check, Groups, Sample}
 use Rattle.run_ends.specs.declared.status.Status.{Status}
 use Rattle.run_ends.specs.declared.status.Status.TheVariants.{Done, BadWords, OutOfMemory}
-use Rattle.session_turns.specs.Top.{IsSettled, RefusesWords, Serves}
-use Rattle.futmax_main.specs.Checks.{ComesTo, ServesCheck, kind_of_check, status_of_check}
+use Rattle.run_ends.specs.Runs.{IsSettled, RefusesWords, Serves}
+use Rattle.run_ends.specs.LastReads.{StopsSession}
+use Rattle.session_turns.specs.LastReads.{LeadSession}
+use Rattle.session_turns.specs.Texts.{session_kind}
+use Rattle.cup_turns.specs.CupLastReads.{LeadCup}
+use Rattle.futmax_main.specs.Checks.{ComesTo, Judge, ServesCheck, kind_of_check, report_judge}
+use Rattle.futmax_main.specs.CupModes.{groups_kind}
 use Rattle.futmax_main.specs.SampleRows.{ServesSample}
 
 -- ---- what a run leaves
@@ -19,9 +22,24 @@ abbrev pub ServesAs : Option Mode → Option (List ℕ) → Option (List ℕ) �
     → Option (List ℕ) → Status → Type 0
 ServesAs None input left ended old new status = RefusesWords old new status
 ServesAs (Some (Check wide)) input left ended old new status =
-    ServesCheck (kind_of_check wide) input left old new status
+    ServesCheck (report_judge (kind_of_check wide)) input left old new status
+ServesAs (Some (Groups proofs)) input left ended old new status =
+    Serves (groups_kind proofs) input left ended old new status
 ServesAs (Some (Sample seed)) input left ended old new status = ServesSample seed old new status
-ServesAs (Some mode) input left ended old new status = Serves mode input left ended old new status
+ServesAs (Some mode) input left ended old new status =
+    Serves (session_kind mode) input left ended old new status
+
+-- reading stops at the read that completes the line at which a session ends, by the mode of the
+-- words, if they fit one: of a session that answers asks or saves
+abbrev pub StopsAs : {S : Type 0} → (S → Option (List ℕ)) → (S → List ℕ → S → Type 0)
+    → Option Mode → S → S → Status → Type 0
+StopsAs left reads None before after status = Unit {0}
+StopsAs left reads (Some (Check wide)) before after status = Unit {0}
+StopsAs left reads (Some (Sample seed)) before after status = Unit {0}
+StopsAs left reads (Some (Groups proofs)) before after status =
+    StopsSession left reads LeadCup before after status
+StopsAs left reads (Some mode) before after status =
+    StopsSession left reads (LeadSession mode) before after status
 
 -- nothing is read: the words do not fit, or the mode reads no input
 abbrev pub ReadsNothing : Option Mode → Type 0
@@ -31,22 +49,28 @@ ReadsNothing (Some mode) = ⊥
 
 -- ---- the status alone
 
--- a check may end so: an input with a report of this kind comes to what has this status
-abbrev pub IsChecked : ReportKind → List ℕ → Status → Type 0
-IsChecked kind input status =
-    (outcome : CheckOutcome) × ComesTo kind input outcome × (status_of_check outcome ≡ status)
+-- a check may end so: an input with a report comes to what has this status
+abbrev pub IsChecked : {Outcome : Type 0} → Judge Outcome → List ℕ → Status → Type 0
+IsChecked {Outcome} judge input status =
+    (outcome : Outcome) × ComesTo judge input outcome × (judge.status outcome ≡ status)
 
 -- the status of a check in which no device failed: that of the input, or of some input if the
 -- source exposes none, or running out of memory
-abbrev pub IsCheckSettled : ReportKind → Option (List ℕ) → Status → Type 0
-IsCheckSettled kind None status =
-    ((input : List ℕ) × IsChecked kind input status) ⊎ (status ≡ OutOfMemory)
-IsCheckSettled kind (Some input) status = IsChecked kind input status ⊎ (status ≡ OutOfMemory)
+abbrev pub IsCheckSettled : {Outcome : Type 0} → Judge Outcome → Option (List ℕ) → Status → Type 0
+IsCheckSettled judge None status =
+    ((input : List ℕ) × IsChecked judge input status) ⊎ (status ≡ OutOfMemory)
+IsCheckSettled judge (Some input) status = IsChecked judge input status ⊎ (status ≡ OutOfMemory)
 
 -- the status of a run in which no device failed, by the mode of its words, if they fit one
 abbrev pub IsSettledAs : Option Mode → Option (List ℕ) → Status → Type 0
 IsSettledAs None input status = (status ≡ BadWords) ⊎ (status ≡ OutOfMemory)
 IsSettledAs (Some (Check wide)) input status =
-    IsCheckSettled (kind_of_check wide) input status
+    IsCheckSettled (report_judge (kind_of_check wide)) input status
+IsSettledAs (Some (Groups proofs)) input status = IsSettled (groups_kind proofs) input status
 IsSettledAs (Some (Sample seed)) input status = (status ≡ Done) ⊎ (status ≡ OutOfMemory)
-IsSettledAs (Some mode) input status = IsSettled mode input status
+IsSettledAs (Some mode) input status = IsSettled (session_kind mode) input status
+
+-- the mode is one of those that judge a report
+abbrev pub IsCheckMode : Mode → Type 0
+IsCheckMode (Check wide) = Unit {0}
+IsCheckMode mode = ⊥

@@ -2,10 +2,10 @@
 
 ghost use Rattle.std.specs.Prelude.{◌≡◌, ◌≢◌, IfOk};
 ghost use Rattle.futmax_main.specs.Checks.{ServesCheck, check_row, refused_row, status_of_check};
-ghost use Rattle.futmax_main.specs.Checks.{accepted_row};
+ghost use Rattle.futmax_main.specs.Checks.{accepted_row, report_judge};
 ghost use Rattle.futmax_main.specs.Checks as checks;
-ghost use Rattle.futmax_main.specs.inside.Judging.{CountsJudged, OutcomeEnds};
-ghost use Rattle.session_turns.specs.Top.{Counts};
+ghost use Rattle.futmax_main.specs.inside.Judging.{CountsJudged, IsStatusOfCheck, JudgedEnds};
+ghost use Rattle.run_ends.specs.Runs.{Counts};
 
 use answer_rows::{number_field, put_row, text_field};
 use cert_check::{CheckFailure, CheckOutcome, ReportFault, ReportKind};
@@ -36,7 +36,7 @@ pub fn run_check<R: Threads + Sync, S: Source, K: Sink>(
     source: &mut S,
     sink: &mut K,
 ) -> Status
-    ensures serves { ServesCheck kind (S.left source.old) (S.left source.new)
+    ensures serves { ServesCheck (report_judge kind) (S.left source.old) (S.left source.new)
         (K.holds sink.old) (K.holds sink.new) result }
     ensures counts { Counts (S.faults source.old) (S.faults source.new)
         (K.faults sink.old) (K.faults sink.new) result }
@@ -53,14 +53,24 @@ pub fn run_check<R: Threads + Sync, S: Source, K: Sink>(
 }
 
 fn put_outcome<K: Sink>(alloc: Global, outcome: CheckOutcome, sink: &mut K) -> Status
-    ensures ends { OutcomeEnds outcome (K.holds sink.old) (K.holds sink.new) result }
+    ensures ends { JudgedEnds (check_row outcome) (status_of_check outcome) (K.holds sink.old)
+        (K.holds sink.new) result }
     ensures counts { CountsJudged (K.faults sink.old) (K.faults sink.new) result }
 {
     let Ok(row) = check_row(alloc, outcome) else {
         return Status::OutOfMemory;
     };
-    match put_row(sink, row.as_slice()) {
-        Ok(()) => status_of_check(outcome),
+    put_judged(row.as_slice(), status_of_check(outcome), sink)
+}
+
+/// Writes the one row of a check that ends with this status.
+pub(crate) fn put_judged<K: Sink>(row: &[u8], judged: Status, sink: &mut K) -> Status
+    requires status { IsStatusOfCheck judged }
+    ensures ends { JudgedEnds row.now judged (K.holds sink.old) (K.holds sink.new) result }
+    ensures counts { CountsJudged (K.faults sink.old) (K.faults sink.new) result }
+{
+    match put_row(sink, row) {
+        Ok(()) => judged,
         Err(_) => Status::WriteFault,
     }
 }
@@ -90,7 +100,8 @@ fn check_row(alloc: Global, outcome: CheckOutcome) -> Result<Vec<u8>, OutOfMemor
     }
 }
 
-fn accepted_row(alloc: Global, rows: u64, unsettled: u64) -> Result<Vec<u8>, OutOfMemory>
+/// `accepted,ROWS,UNSETTLED`, alone.
+pub(crate) fn accepted_row(alloc: Global, rows: u64, unsettled: u64) -> Result<Vec<u8>, OutOfMemory>
     ensures { IfOk result (λ row. row.items ≡ accepted_row rows unsettled) }
 {
     let fields = [
@@ -101,7 +112,12 @@ fn accepted_row(alloc: Global, rows: u64, unsettled: u64) -> Result<Vec<u8>, Out
     write_row(alloc, &fields)
 }
 
-fn refused_row(alloc: Global, number: u64, fault: ReportFault) -> Result<Vec<u8>, OutOfMemory>
+/// `refused,LINE,CODE`, alone.
+pub(crate) fn refused_row(
+    alloc: Global,
+    number: u64,
+    fault: ReportFault,
+) -> Result<Vec<u8>, OutOfMemory>
     ensures { IfOk result (λ row. row.items ≡ refused_row number fault) }
 {
     let fields = [

@@ -1,19 +1,22 @@
 //! A command, from its words to its status.
 
-ghost use Rattle.std.specs.Prelude.{◌≡◌, ◌≢◌, Bool, None, Some, map, string_bytes};
-ghost use Rattle.command_words.specs.declared.command.Mode.TheVariants.{Check};
+ghost use Rattle.std.specs.Prelude.{◌≡◌, ◌≢◌, None, Some, map, string_bytes};
+ghost use Rattle.command_words.specs.declared.command.Mode.{Mode};
 ghost use Rattle.command_words.specs.Commands.{mode_of};
-ghost use Rattle.session_turns.specs.LastReads.{StopsAs};
-ghost use Rattle.futmax_main.specs.Modes.{IsSettledAs, ReadsNothing, ServesAs};
-ghost use Rattle.session_turns.specs.Top.{Counts, RefusesWords};
-ghost use Rattle.session_turns.specs.inside.Turns.{CountsWords, MayEndAs};
+ghost use Rattle.futmax_main.specs.Modes.{IsCheckMode, IsSettledAs, ReadsNothing, ServesAs};
+ghost use Rattle.futmax_main.specs.Modes.{StopsAs};
+ghost use Rattle.run_ends.specs.Runs.{Counts, RefusesWords};
+ghost use Rattle.futmax_main.specs.inside.ModeEnds.{MayEndAs};
+ghost use Rattle.session_turns.specs.inside.Turns.{CountsWords};
 
 use crate::check::{kind_of_check, run_check};
+use crate::groups::GroupAnswers;
 use crate::sample::run_sample;
 use crate::session::run_session;
 use crate::setup::Setup;
 use answer_rows::put_row;
 use command_words::{Command, Mode, command_of};
+use cup_turns::run_cup;
 use league_core::OutOfMemory;
 use port_core::{Sink, Source};
 use run_ends::{Status, usage_row};
@@ -49,7 +52,8 @@ pub fn futmax<R: Threads + Wait + Sync, S: Source + Send, K: Sink, G: Gate + Syn
     ensures settled { result ≢ Status.ReadFault → result ≢ Status.WriteFault
         → IsSettledAs (mode_of (map string_bytes words.items)) (S.left source.old) result }
     ensures unproved { result ≡ Status.NotProved
-        → (wide : Bool) × (mode_of (map string_bytes words.items) ≡ Some (Check wide)) }
+        → (mode : Mode) × IsCheckMode mode
+        × (mode_of (map string_bytes words.items) ≡ Some mode) }
     // Words are refused only if they fit no mode, and then nothing is read, nor for a sample.
     ensures words_cause { result ≡ Status.BadWords
         → mode_of (map string_bytes words.items) ≡ None }
@@ -97,6 +101,7 @@ fn run_mode<R: Threads + Wait + Sync, S: Source + Send, K: Sink, G: Gate + Sync>
         Mode::Check { wide } => {
             run_check(setup.rt, setup.alloc, kind_of_check(wide), source, sink)
         }
+        Mode::Groups { proofs } => { run_cup(setup.alloc, &GroupAnswers { proofs }, source, sink) }
         Mode::Sample { seed } => run_sample(setup.alloc, seed, sink),
     }
 }

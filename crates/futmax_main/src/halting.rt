@@ -54,6 +54,7 @@ pub fn next_round<R: Threads + Wait + Sync, S: Source + Send, G: Gate + Sync>(
         | Mode::Resume { .. }
         | Mode::Decide { .. }
         | Mode::Check { .. }
+        | Mode::Groups { .. }
         | Mode::Sample { .. } => Ok(halt_of(read_round(alloc, pool, reader, source)?)),
     }
 }

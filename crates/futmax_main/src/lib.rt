@@ -1,12 +1,13 @@
 //! The top call: an input's bytes in, the answers' bytes out, and one status.
 //!
 //! `specs/Modes.antt` says what the call promises. It rests on what a session writes, in
-//! `specs/Top.antt` of session_turns; `specs/Checks.antt` and `specs/SampleRows.antt` say what the
+//! `specs/Runs.antt` of run_ends; `specs/Checks.antt` and `specs/SampleRows.antt` say what the
 //! modes without asks write.
 #![tactic(auto)]
 
 mod check;
 mod command;
+mod groups;
 mod halting;
 mod sample;
 mod session;

@@ -2,12 +2,14 @@
 
 ghost use Rattle.std.specs.Prelude.{◌≡◌, ℕ, Bool, List, Option};
 ghost use Rattle.port_core.specs.Readers.{stream_of};
-ghost use Rattle.session_turns.specs.LastReads.{StopsSession};
-ghost use Rattle.session_turns.specs.Top.{Counts, Serves};
+ghost use Rattle.run_ends.specs.LastReads.{StopsSession};
+ghost use Rattle.run_ends.specs.Runs.{Counts, Serves};
+ghost use Rattle.run_ends.specs.inside.RunTurns.{MayEndSession};
+ghost use Rattle.session_turns.specs.LastReads.{LeadSession};
+ghost use Rattle.session_turns.specs.Texts.{session_kind};
 ghost use Rattle.session_turns.specs.inside.Progress.{PathToPool};
 ghost use Rattle.session_turns.specs.inside.TurnReads.{RoundStops, RoundsStop};
-ghost use Rattle.session_turns.specs.inside.Turns.{IsLive, MayEndSession, TurnCounts, TurnGives};
-ghost use Rattle.session_turns.specs.inside.Turns.{TurnGoesOn};
+ghost use Rattle.session_turns.specs.inside.Turns.{IsLive, TurnCounts, TurnGives, TurnGoesOn};
 
 use crate::halting::next_round;
 use crate::setup::Setup;
@@ -26,9 +28,10 @@ pub fn run_session<R: Threads + Wait + Sync, S: Source + Send, K: Sink, G: Gate 
     source: &mut S,
     sink: &mut K,
 ) -> Status
-    ensures serves { Serves setup.now.mode (S.left source.old) (S.left source.new)
-        (S.ended source.new) (K.holds sink.old) (K.holds sink.new) result }
-    ensures last { StopsSession S.left S.reads setup.now.mode source.old source.new result }
+    ensures serves { Serves (session_kind setup.now.mode) (S.left source.old)
+        (S.left source.new) (S.ended source.new) (K.holds sink.old) (K.holds sink.new) result }
+    ensures last { StopsSession S.left S.reads (LeadSession setup.now.mode) source.old
+        source.new result }
     ensures counts { Counts (S.faults source.old) (S.faults source.new)
         (K.faults sink.old) (K.faults sink.new) result }
     ensures status { MayEndSession result }
@@ -54,7 +57,7 @@ fn run_rounds<R: Threads + Wait + Sync, S: Source + Send, K: Sink, G: Gate + Syn
     ensures serves { (input : Option (List ℕ)) (ended : Bool) (old : Option (List ℕ))
         → PathToPool setup.now.mode input ended (stream_of reader.old (S.left source.old))
         (S.ended source.old) reader.old.position pool old (K.holds sink.old)
-        → Serves setup.now.mode input (S.left source.new) (S.ended source.new) old
+        → Serves (session_kind setup.now.mode) input (S.left source.new) (S.ended source.new) old
         (K.holds sink.new) result }
     ensures last { RoundsStop S.left S.reads setup.now.mode pool reader.old source.old
         source.new result }

@@ -7,11 +7,11 @@ ghost use Rattle.branch_rules.specs.inside.Found.{is_proposed_example};
 ghost use Rattle.cup_sheet.specs.CupLimits.{direct_places};
 ghost use Rattle.cup_sheet.specs.GroupQuestions as asked;
 ghost use Rattle.group_search.specs.inside.GroupLooks.{IsGroupExampleOf, IsVainInGroup};
-ghost use Rattle.group_search.specs.inside.KindQuestions.{group_question_of};
+ghost use Rattle.cup_groups.specs.inside.KindQuestions.{group_question_of};
 
-use crate::question::KindQuestion;
 use crate::second::candidate_lots;
 use club_keys::key_of;
+use cup_groups::KindQuestion;
 use example_finish::{is_example, propose};
 use final_rank::lots_for;
 use league_core::OutOfMemory;

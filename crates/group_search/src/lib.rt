@@ -7,10 +7,8 @@
 #![tactic(auto)]
 
 mod example;
-mod question;
 mod reason;
 mod second;
 mod task;
 
-pub use question::KindQuestion;
 pub use task::solve_group;

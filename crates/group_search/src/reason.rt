@@ -6,10 +6,10 @@ ghost use Rattle.cup_sheet.specs.declared.question.GroupReason.{GroupReason};
 ghost use Rattle.cup_sheet.specs.CupLimits.{direct_places};
 ghost use Rattle.cup_sheet.specs.GroupQuestions as asked;
 ghost use Rattle.group_search.specs.inside.GroupLooks.{IsGroupReasonIn};
-ghost use Rattle.group_search.specs.inside.KindQuestions.{group_question_of};
+ghost use Rattle.cup_groups.specs.inside.KindQuestions.{group_question_of};
 
-use crate::question::KindQuestion;
 use branch_rules::first_reason;
+use cup_groups::KindQuestion;
 use cup_sheet::GroupReason;
 use flow_bound::FlowKeep;
 use key_bounds::key_ends;

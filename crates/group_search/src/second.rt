@@ -11,7 +11,7 @@ ghost use Rattle.league_core.specs.game.Ranking.{are_lots, place_of};
 ghost use Rattle.cup_sheet.specs.CupLimits.{direct_places};
 ghost use Rattle.group_search.specs.inside.SecondLots.{second_lots, is_neither, IsCandidateBy};
 
-use crate::question::DIRECT_PLACES;
+use cup_groups::DIRECT_PLACES;
 use final_rank::{place, worst_place};
 use league_core::{Lots, OutOfMemory, Season, Sheet};
 use std::alloc::{AllocError, Global};

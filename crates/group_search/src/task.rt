@@ -12,12 +12,12 @@ ghost use Rattle.group_search.specs.inside.GroupTasks.{AskedInGroup, asked_in_gr
 ghost use Rattle.group_search.specs.inside.GroupTasks.{MayLookInGroup, ShowsInGroup};
 ghost use Rattle.group_search.specs.inside.GroupTasks.{RefutesInGroup, SplitsInGroup};
 ghost use Rattle.group_search.specs.inside.GroupTasks.{IsGroupSolved};
-ghost use Rattle.group_search.specs.inside.KindQuestions.{group_question_of};
+ghost use Rattle.cup_groups.specs.inside.KindQuestions.{group_question_of};
 
 use crate::example::example_in;
-use crate::question::KindQuestion;
 use crate::reason::group_reason;
 use branch_rules::{choose, move_to};
+use cup_groups::KindQuestion;
 use cup_sheet::GroupReason;
 use depth_search::{Kind, SearchEnd, ZoneLook, work_through};
 use flow_bound::FlowKeep;

@@ -27,10 +27,10 @@ use Rattle.cert_check.specs.Outcomes.{outcome_of_report, outcome_of_sheet}
 use Rattle.cert_check.proofs.ReadingLemmas.{sheet_read}
 use Rattle.run_ends.specs.declared.run_end.RunEnd.{RunEnd}
 use Rattle.run_ends.specs.declared.run_end.RunEnd.TheVariants.{Complete}
-use Rattle.futmax_main.specs.Checks.{ComesTo}
+use Rattle.futmax_main.specs.Checks.{ComesTo, report_judge}
 use Rattle.session_turns.specs.Courses.{Course, Origin, course_after, course_of, first_origin}
 use Rattle.session_turns.specs.Plays.{Played}
-use Rattle.session_turns.specs.Texts.{AreAnswers, IsLastText}
+use Rattle.session_turns.specs.Texts.{AreAnswers}
 use Rattle.session_turns.specs.inside.FeedCourses.{IsFeedIn, asks_in, course_at_close}
 use Rattle.session_turns.specs.inside.FeedCourses.{outcome_at_feed}
 use Rattle.session_turns.proofs.CourseLemmas.{course-of_feed}
@@ -43,6 +43,8 @@ use Rattle.report_laws.proofs.FeedProofsLemmas.{GoesBefore, contents-before}
 use Rattle.report_laws.proofs.GivenReportLemmas.{GivesReport, report-given}
 use Rattle.report_laws.proofs.KnownEndLemmas.{done-complete, feed-unrefused, sheet-refused}
 use Rattle.report_laws.proofs.ReportLemmas.{ArePartsRead, report_of_parts}
+use Rattle.run_ends.specs.Texts.{IsLastText}
+use Rattle.session_turns.specs.Texts.{IsSavedText}
 
 -- ---- what they come to
 
@@ -52,7 +54,7 @@ comes-to : (kind : ReportKind) (input text : List ℕ) (sheet : Sheet) (rest : C
     (unplayed_season (length sheet.clubs) (length sheet.fixtures)) 0 text unsettled)
     → sheet_reading_of (contents_of input) None ≡ record { gives = Ok sheet; rest = rest }
     → GoesBefore sheet rest.lines rest.ending [] → GivesReport input text read.told
-    → ComesTo kind (input_with_answers input text)
+    → ComesTo (report_judge kind) (input_with_answers input text)
     (Accepted (rows_written (length sheet.lines * length sheet.clubs)
     (feed_of sheet false rest []).entries) unsettled)
 comes-to kind input text sheet rest unsettled read is before given =
@@ -87,7 +89,7 @@ comes-to kind input text sheet rest unsettled read is before given =
 last_none : (kind : ReportKind) (origin : Origin) (close : Result Entry FeedStop)
     (events : List Event) (last : List ℕ)
     → (course_at_close (mode_of_kind kind) origin close events).outcome ≡ Complete
-    → IsLastText (course_at_close (mode_of_kind kind) origin close events).outcome
+    → IsLastText IsSavedText (course_at_close (mode_of_kind kind) origin close events).outcome
     (course_at_close (mode_of_kind kind) origin close events).closing last
     → (outcome_at_feed close ≡ Complete) × (last ≡ [])
 last_none kind origin (Ok (Change event)) events last complete is = (refl, is)
@@ -96,7 +98,7 @@ last_none kind origin (Ok Proofs) events last complete is = (refl, is)
 last_none Plain origin (Ok End) events last complete is = (refl, is)
 last_none Wide origin (Ok End) events last complete is = (refl, is)
 last_none kind origin (Err stop) events last complete is =
-    let P : RunEnd → Type 0 = λ outcome. IsLastText outcome None last in
+    let P : RunEnd → Type 0 = λ outcome. IsLastText IsSavedText outcome None last in
     (complete, subst P complete is)
 
 -- and nothing more to answer
@@ -124,13 +126,14 @@ module _ (kind : ReportKind) (input text : List ℕ)
 
   -- a text with so many rows, and so many unsettled ones, is accepted
   abbrev IsAccepted : ℕ → ℕ → Type 0
-  IsAccepted rows unsettled = ComesTo kind (input_with_answers input text) (Accepted rows unsettled)
+  IsAccepted rows unsettled =
+      ComesTo (report_judge kind) (input_with_answers input text) (Accepted rows unsettled)
 
   -- a session of this course that is complete writes only what is accepted
   abbrev WritesAccepted : Course → Type 0
   WritesAccepted course =
       (answers last : List ℕ) (made : AreAnswers (mode_of_kind kind) course.asks answers)
-      → course.outcome ≡ Complete → IsLastText course.outcome course.closing last
+      → course.outcome ≡ Complete → IsLastText IsSavedText course.outcome course.closing last
       → text ≡ answers ++ last
       → IsAccepted (rows_of_asks course.asks) (unsettled_told kind course.asks answers made)
 

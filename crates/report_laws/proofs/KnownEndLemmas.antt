@@ -166,6 +166,7 @@ done-complete (Refused fault) is = absurd (by_cause fault.cause is)
   where
     by_cause : (why : Cause) → status_of_cause why ≡ Done → ⊥
     by_cause (cause.Sheet fault) is = cc
+    by_cause (cause.Cup fault) is = cc
     by_cause (cause.Feed fault) is = cc
     by_cause cause.LineTooLong is = cc
     by_cause cause.InputTooLong is = cc

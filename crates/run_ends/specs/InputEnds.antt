@@ -4,6 +4,8 @@ use Rattle.port_core.specs.declared.line.ReadStop.{ReadStop}
 use Rattle.port_core.specs.declared.line.ReadStop.TheVariants as stop
 use Rattle.fixture_sheet.specs.declared.fault.SheetStop.{SheetStop}
 use Rattle.fixture_sheet.specs.declared.fault.SheetStop.TheVariants as sheet_stop
+use Rattle.cup_sheet.specs.declared.fault.CupStop.{CupStop}
+use Rattle.cup_sheet.specs.declared.fault.CupStop.TheVariants as cup_stop
 use Rattle.run_ends.specs.declared.status.Status.{Status}
 use Rattle.run_ends.specs.declared.status.Status.TheVariants.{Done, BadSheet, BadFeed, TooLong}
 use Rattle.run_ends.specs.declared.run_end.Cause.{Cause}
@@ -40,11 +42,19 @@ outcome_at_sheet (sheet_stop.Fault number fault) =
 outcome_at_sheet (sheet_stop.Read stop) = outcome_at_stop stop
 outcome_at_sheet sheet_stop.OutOfMemory = Complete
 
+-- where no cup comes
+abbrev pub outcome_at_cup : CupStop → RunEnd
+outcome_at_cup (cup_stop.Fault number fault) =
+    Refused (record { number = number; cause = cause.Cup fault })
+outcome_at_cup (cup_stop.Read stop) = outcome_at_stop stop
+outcome_at_cup cup_stop.OutOfMemory = Complete
+
 -- ---- the status
 
 -- the status of a session that a fault ends
 abbrev pub status_of_cause : Cause → Status
 status_of_cause (cause.Sheet fault) = BadSheet
+status_of_cause (cause.Cup fault) = BadSheet
 status_of_cause (cause.Feed fault) = BadFeed
 status_of_cause cause.LineTooLong = TooLong
 status_of_cause cause.InputTooLong = TooLong

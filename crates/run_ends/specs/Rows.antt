@@ -1,6 +1,7 @@
 -- The rows that end a run: each has a cause of its own, and ends with LF.
 use Rattle.std.specs.Prelude.{ℕ, List, [], ◌∷◌, codes, decimal}
 use Rattle.cert_text.specs.Rows.{text_of_row}
+use Rattle.cup_sheet.specs.CupFaults.{cup_code_of}
 use Rattle.fixture_sheet.specs.Faults.{sheet_code_of}
 use Rattle.result_log.specs.Faults.{feed_code_of}
 use Rattle.run_ends.specs.declared.run_end.Cause.{Cause}
@@ -15,6 +16,7 @@ usage_row =
 -- the code of a refusal
 abbrev pub cause_text : Cause → List ℕ
 cause_text (cause.Sheet fault) = sheet_code_of fault
+cause_text (cause.Cup fault) = cup_code_of fault
 cause_text (cause.Feed fault) = feed_code_of fault
 cause_text cause.LineTooLong = codes "line_too_long"
 cause_text cause.InputTooLong = codes "input_too_long"

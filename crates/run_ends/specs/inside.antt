@@ -2,3 +2,5 @@
 -- these words.
 pub mod Statuses
 pub mod Stops
+pub mod Ways
+pub mod RunTurns

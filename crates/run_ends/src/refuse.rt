@@ -3,13 +3,15 @@
 ghost use Rattle.std.specs.Prelude.{◌≡◌};
 ghost use Rattle.run_ends.specs.inside.Stops.{CountsEnd, CountsStop, FaultEnds, StopEnds};
 ghost use Rattle.run_ends.specs.declared.refuse.InputStop.TheVariants.{Refused};
-ghost use Rattle.run_ends.specs.inside.Stops.{stop_of_feed, stop_of_read, stop_of_sheet};
+ghost use Rattle.run_ends.specs.inside.Stops.{stop_of_cup, stop_of_feed, stop_of_read};
+ghost use Rattle.run_ends.specs.inside.Stops.{stop_of_sheet};
 ghost use Rattle.run_ends.specs.InputEnds.{save_fault, status_of_cause};
 
 use crate::rows::fault_row;
 use crate::run_end::{Cause, Fault};
 use crate::status::Status;
 use answer_rows::put_row;
+use cup_sheet::CupStop;
 use fixture_sheet::SheetStop;
 use port_core::{ReadStop, Sink};
 use result_log::FeedStop;
@@ -34,6 +36,20 @@ pub fn stop_of_sheet(stop: SheetStop) -> InputStop
         }
         SheetStop::Read(stop) => stop_of_read(stop),
         SheetStop::OutOfMemory => InputStop::OutOfMemory,
+    }
+}
+
+/// Why no cup is given.
+pub fn stop_of_cup(stop: CupStop) -> InputStop
+    ensures { result ≡ stop_of_cup stop }
+{
+    match stop {
+        CupStop::Fault { number, fault } => {
+            let cause = Cause::Cup(fault);
+            InputStop::Refused(Fault { number, cause })
+        }
+        CupStop::Read(stop) => stop_of_read(stop),
+        CupStop::OutOfMemory => InputStop::OutOfMemory,
     }
 }
 
@@ -106,7 +122,7 @@ fn status_of_cause(cause: Cause) -> Status
     ensures { result ≡ status_of_cause cause }
 {
     match cause {
-        Cause::Sheet(_) => Status::BadSheet,
+        Cause::Sheet(_) | Cause::Cup(_) => Status::BadSheet,
         Cause::Feed(_) | Cause::BadSave => Status::BadFeed,
         Cause::LineTooLong | Cause::InputTooLong => Status::TooLong,
     }

@@ -38,6 +38,7 @@ fn cause_text(cause: Cause) -> &'static str
 {
     match cause {
         Cause::Sheet(fault) => fault.code(),
+        Cause::Cup(fault) => fault.code(),
         Cause::Feed(fault) => fault.code(),
         Cause::LineTooLong => "line_too_long",
         Cause::InputTooLong => "input_too_long",

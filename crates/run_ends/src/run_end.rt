@@ -1,5 +1,6 @@
 //! How a session ends, by its input.
 
+use cup_sheet::CupFault;
 use fixture_sheet::SheetFault;
 use result_log::FeedFault;
 
@@ -8,6 +9,8 @@ use result_log::FeedFault;
 pub enum Cause {
     /// The line, or the end of the input, is none of a sheet here.
     Sheet(SheetFault),
+    /// The line, or the end of the input, is none of a cup's sheet here.
+    Cup(CupFault),
     /// The line is none of a feed here.
     Feed(FeedFault),
     /// The line has more bytes than a line may have.

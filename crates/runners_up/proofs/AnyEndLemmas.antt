@@ -1,16 +1,10 @@
 -- Ends of groups one by one.
 use Rattle.std.proofs.Common.{◌≡◌, ◌<◌, ◌≤◌, ℕ, zero, suc, ◌+◌, List, [], ◌∷◌, ◌++◌, length, take}
-use Rattle.std.proofs.Common.{true, refl, sym, ap, subst, arith, slice_index_or}
+use Rattle.std.proofs.Common.{refl, sym, ap, subst, arith, slice_index_or}
 use Rattle.std.specs.Prelude.{All}
-use Rattle.league_core.specs.declared.question.Question.{Question}
 use Rattle.league_core.specs.declared.sheet.Sheet.{Sheet}
 use Rattle.league_core.specs.game.Results.{Results}
 use Rattle.league_core.specs.game.Seasons.{IsLeague, IsSeasonOf}
-use Rattle.league_core.specs.game.Finishes.{IsFinishOf}
-use Rattle.league_core.specs.game.Ranking.{are_lots}
-use Rattle.league_core.specs.search.Proposals.{proposed_finish}
-use Rattle.league_core.proofs.HalfLemmas.{root_has_finish}
-use Rattle.league_core.proofs.ProposalLemmas.{proposed_is_finish}
 use Rattle.tree_arena.specs.declared.example.Example.{Example}
 use Rattle.cup_sheet.specs.Cups.{IsGroup, AreSeasonsOf}
 use Rattle.runners_up.specs.inside.JointEnds.{IsGroupEnd, AreGroupEnds}
@@ -94,13 +88,3 @@ each_league goal_limit budget groups seasons k sheet season are of_sheets inside
     season_at (group ∷ groups) (own ∷ seasons) zero sheet season of_sheets inside = of_sheets.0
     season_at (group ∷ groups) (own ∷ seasons) (suc k) sheet season of_sheets inside =
         season_at groups seasons k sheet season of_sheets.1 (omega (arith, inside))
-
--- what is proposed is an end
-pub proposed_end : (sheet : Sheet) (season : Results) (question : Question) (end : Example)
-    → IsSeasonOf sheet season → end.finish ≡ proposed_finish sheet season question []
-    → are_lots (length sheet.clubs) end.lots ≡ true → IsGroupEnd sheet season end
-proposed_end sheet season question end of_sheet is drawn = record {
-  is_finish = subst (λ (finish : Results). IsFinishOf sheet season finish) (sym is)
-      (proposed_is_finish sheet season question [] of_sheet (root_has_finish sheet season));
-  is_drawn = drawn;
-}

@@ -1,19 +1,22 @@
 -- Other groups one after another: numbers in their order, ends that are changed, and what is known.
 use Rattle.std.proofs.Common.{◌≡◌, ◌≢◌, ◌<◌, ◌≤◌, ℕ, zero, suc, ◌+◌, ℤ, true, not, ◌==◌}
 use Rattle.std.proofs.Common.{List, [], ◌∷◌, ◌++◌, length, Some, None, refl, sym, ap, ◌∙◌}
-use Rattle.std.proofs.Common.{subst, arith, slice_index_or}
+use Rattle.std.proofs.Common.{subst, arith, slice_index_or, Bool, inl, inr, if◌then◌else◌}
 use Rattle.std.specs.Prelude.{All, slice_get, slice_set, Option}
-use Rattle.std.proofs.lemmas.Bool.{false≢true, eq-eqb}
+use Rattle.std.specs.Option.{IsSome}
+use Rattle.std.proofs.lemmas.Bool.{false≢true, eq-eqb, lt-ltb}
 use Rattle.std.proofs.lemmas.Bool.Decides.{nat_tests}
 use Rattle.std.proofs.lemmas.List.{length-append, map-append}
 use Rattle.std.proofs.lemmas.Option.{none-some, same_Some}
 use Rattle.league_core.specs.declared.sheet.Sheet.{Sheet}
 use Rattle.league_core.specs.declared.question.Claim.{Claim}
+use Rattle.league_core.specs.declared.question.Claim.TheVariants.{Inside, Outside}
 use Rattle.league_core.specs.game.Results.{Results}
 use Rattle.league_core.proofs.plain.Slots.{slice_get-set_same, slice_get-set_other}
 use Rattle.tree_arena.specs.declared.example.Example.{Example}
 use Rattle.cup_sheet.specs.declared.cup.Cup.{Cup}
-use Rattle.cup_sheet.specs.CupAnswers.{AreRising}
+use Rattle.cup_sheet.specs.CupAnswers.{AreRising, listed_groups, shown_groups}
+use Rattle.cup_sheet.specs.Cups.{IsCup}
 use Rattle.cup_laws.proofs.GroupEndLemmas.{get_there}
 use Rattle.runners_up.specs.declared.others.GroupAsked.{GroupAsked}
 use Rattle.runners_up.specs.declared.others.GroupAsked.TheVariants.{Shown, Refuted, Spent}
@@ -24,6 +27,7 @@ use Rattle.runners_up.specs.inside.GroupsAsked.{IsGroupAsked}
 use Rattle.runners_up.specs.inside.GroupSurveys.{IsOtherGroup, IsEmptyGroup, IsOpenGroup}
 use Rattle.runners_up.specs.inside.GroupSurveys.{AreRisingTo, group_numbers, own_among}
 use Rattle.runners_up.specs.inside.GroupSurveys.{AreAllCounted, IsSurveyed, IsGroupNoted}
+use Rattle.runners_up.specs.inside.GroupSurveys.{IsSurveyOver}
 use Rattle.runners_up.specs.inside.JointEnds.{IsGroupEnd, AreGroupEnds, IsShownGroup}
 
 -- ---- lists that grow
@@ -319,3 +323,40 @@ group_surveyed cup seasons claim key mine before count sheet season (Spent spent
       counted = subst (λ (it : Option OpenGroup). AreAllCounted cup seasons claim key mine
           (count + 1) (length new.shown.items) (length new.listed.items) it) (sym noted.3) unknown;
     }
+
+-- ---- when all are asked, or enough
+
+-- so many groups show a side, and so many refute it: together as many as there are
+both_sides : (cup : Cup) (claim : Claim) → IsCup cup
+    → shown_groups cup claim + listed_groups cup claim ≡ length cup.groups
+both_sides cup Outside is_cup = omega (arith, is_cup.most_quota)
+both_sides cup Inside is_cup = omega (arith, is_cup.most_quota)
+
+-- where all are counted, and neither many enough, one is not known
+some_unknown : (cup : Cup) (seasons : List Results) (claim : Claim) (key : List ℤ)
+    (mine count shown listed : ℕ) (unknown : Option OpenGroup) → IsCup cup
+    → count ≡ length cup.groups → mine < count → shown < shown_groups cup claim
+    → listed < listed_groups cup claim
+    → AreAllCounted cup seasons claim key mine count shown listed unknown → IsSome unknown
+some_unknown cup seasons claim key mine count shown listed (Some group) is_cup all inside
+    few_shown few_listed known =
+    refl
+some_unknown cup seasons claim key mine count shown listed None is_cup all inside few_shown
+    few_listed known =
+    let own : own_among mine count ≡ 1 =
+    ap (λ (b : Bool). if b then 1 else 0) (lt-ltb mine count inside) in
+    absurd (omega (arith, all, known, own, few_shown, few_listed, both_sides cup claim is_cup))
+
+pub one_is_open : (cup : Cup) (seasons : List Results) (claim : Claim) (key : List ℤ) (mine : ℕ)
+    (before : List Example) (survey : GroupSurvey) → IsCup cup → mine < length cup.groups
+    → IsSurveyOver cup seasons claim key mine before survey
+    → length survey.shown.items < shown_groups cup claim
+    → length survey.listed.items < listed_groups cup claim → IsSome survey.unknown
+one_is_open cup seasons claim key mine before survey is_cup inside over few_shown few_listed =
+    elim over.over as (λ _. IsSome survey.unknown) [
+      | inl all ↦ some_unknown cup seasons claim key mine over.count
+          (length survey.shown.items) (length survey.listed.items) survey.unknown is_cup all
+          (omega (arith, all, inside)) few_shown few_listed over.asked.counted
+      | inr (inl enough) ↦ absurd (omega (arith, enough, few_shown))
+      | inr (inr enough) ↦ absurd (omega (arith, enough, few_listed))
+    ]

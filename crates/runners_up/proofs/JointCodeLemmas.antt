@@ -1,8 +1,7 @@
--- Groups one by one: how many clubs are before the next, and the lots with those of one more; and
--- the joint finish.
+-- Groups one by one: the lots with those of one more; and the joint finish.
 use Rattle.std.proofs.Common.{◌≡◌, ◌<◌, ◌≤◌, ℕ, zero, suc, ◌+◌, List, [], ◌∷◌, ◌++◌, length, map}
 use Rattle.std.proofs.Common.{take}
-use Rattle.std.proofs.Common.{refl, sym, ap, ◌∙◌, subst, arith, append_assoc, append-nil}
+use Rattle.std.proofs.Common.{sym, ap, ◌∙◌, subst, arith, append_assoc, append-nil}
 use Rattle.std.proofs.Common.{slice_index_or, true, nat_lt, Some, ◌*◌}
 use Rattle.std.specs.Prelude.{All, slice_get}
 use Rattle.std.specs.List.{list_all}
@@ -19,47 +18,13 @@ use Rattle.cup_sheet.specs.CupAnswers.{IsCupExample}
 use Rattle.cup_sheet.specs.Cups.{IsCup, IsGroup, clubs_together}
 use Rattle.cup_sheet.specs.JointFinishes.{ClubBlock}
 use Rattle.cup_sheet.proofs.CupLotsLemmas.{as_many_lots, lots_below}
-use Rattle.runners_up.specs.declared.seat.ClubSeat.{ClubSeat}
-use Rattle.runners_up.specs.inside.ClubSeats.{seat_block, IsSeatOf}
-use Rattle.runners_up.specs.inside.JointEnds.{AreGroupEnds, group_finishes, clubs_before, block_of}
+use Rattle.cup_groups.specs.declared.seat.ClubSeat.{ClubSeat}
+use Rattle.cup_groups.specs.inside.ClubSeats.{seat_block, IsSeatOf}
+use Rattle.runners_up.specs.inside.JointEnds.{AreGroupEnds, group_finishes, block_of}
 use Rattle.runners_up.specs.inside.JointEnds.{lots_from, is_drawn_early, joint_lots, IsSideShown}
 use Rattle.runners_up.proofs.JointLotsLemmas.{sides_are_lots}
 use Rattle.runners_up.proofs.JointShownLemmas.{ends_show}
 use Rattle.runners_up.proofs.LaidEndsLemmas.{lots_count, lots_have_all}
-
--- ---- clubs before a group
-
--- one group more
-before_next : (groups : List Sheet) (number : ℕ) (d : Sheet) → number < length groups
-    → clubs_before groups (suc number)
-    ≡ clubs_before groups number + length (slice_index_or groups number d).clubs
-before_next [] number d inside = absurd (omega (arith, inside))
-before_next (group ∷ groups) zero d inside = one groups
-  where
-    one : (groups : List Sheet) → length group.clubs + clubs_before groups 0
-        ≡ 0 + length group.clubs
-    one [] = omega arith
-    one (group ∷ groups) = omega arith
-before_next (group ∷ groups) (suc number) d inside =
-    let rest = before_next groups number d (omega (arith, inside)) in
-    omega (arith, rest)
-
-pub clubs_before-next : (groups : List Sheet) (number : ℕ) (d : Sheet) → number < length groups
-    → clubs_before groups (number + 1)
-    ≡ clubs_before groups number + length (slice_index_or groups number d).clubs
-clubs_before-next groups number d inside =
-    let at : number + 1 ≡ suc number = omega arith in
-    ap (clubs_before groups) at ∙ before_next groups number d inside
-
--- all groups
-pub clubs_before-all : (groups : List Sheet) → clubs_before groups (length groups)
-    ≡ clubs_together groups
-clubs_before-all [] = refl
-clubs_before-all (group ∷ groups) = ap (λ (n : ℕ). length group.clubs + n) (clubs_before-all groups)
-
-pub clubs_before-start : (groups : List Sheet) → clubs_before groups 0 ≡ 0
-clubs_before-start [] = refl
-clubs_before-start (group ∷ groups) = refl
 
 -- ---- lots with those of one group more
 

@@ -19,7 +19,8 @@ use Rattle.cup_sheet.specs.Cups.{IsCup, clubs_together}
 use Rattle.cup_sheet.specs.JointFinishes.{ClubBlock, GroupState, is_in_block, number_in_cup}
 use Rattle.cup_sheet.specs.JointFinishes.{lots_within, states_of}
 use Rattle.cup_laws.proofs.GroupEndLemmas.{one_group}
-use Rattle.runners_up.specs.inside.JointEnds.{AreGroupEnds, group_finishes, clubs_before, block_of}
+use Rattle.runners_up.specs.inside.JointEnds.{AreGroupEnds, group_finishes, block_of}
+use Rattle.cup_groups.specs.GroupStarts.{clubs_before}
 use Rattle.runners_up.specs.inside.JointEnds.{lots_from, is_drawn_early, joint_lots, IsClubAt}
 use Rattle.runners_up.proofs.LaidEndsLemmas.{state_with, state_there, before_rises, group_keeps}
 use Rattle.runners_up.proofs.LaidEndsLemmas.{lots_have_all}

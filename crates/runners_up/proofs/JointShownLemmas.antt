@@ -25,7 +25,8 @@ use Rattle.cup_sheet.specs.CupAnswers.{qualifies_on}
 use Rattle.cup_laws.proofs.GroupEndLemmas.{any_there, there_is, states_are_all, one_group}
 use Rattle.cup_laws.proofs.GroupCountLemmas.{PassesAt, rising_counts, passes_counts, parts_counted}
 use Rattle.runners_up.specs.inside.JointEnds.{group_finishes}
-use Rattle.runners_up.specs.inside.JointEnds.{clubs_before, block_of, lots_from, is_drawn_early}
+use Rattle.runners_up.specs.inside.JointEnds.{block_of, lots_from, is_drawn_early}
+use Rattle.cup_groups.specs.GroupStarts.{clubs_before}
 use Rattle.runners_up.specs.inside.JointEnds.{joint_lots, IsShownByKey, IsSideShown, JointEndsShow}
 use Rattle.runners_up.proofs.LaidEndsLemmas.{state_with, ends_finish, lots_count, lots_have_all}
 use Rattle.runners_up.proofs.LaidEndsLemmas.{end_drawn}

@@ -21,7 +21,8 @@ use Rattle.cup_sheet.specs.Cups.{IsGroup, clubs_together}
 use Rattle.cup_sheet.specs.JointFinishes.{ClubBlock, is_in_block, number_in_cup, GroupState}
 use Rattle.cup_sheet.specs.JointFinishes.{states_from, AreFinishesOf}
 use Rattle.cup_sheet.proofs.CupLotsLemmas.{as_many_lots, lots_below}
-use Rattle.runners_up.specs.inside.JointEnds.{AreGroupEnds, group_finishes, clubs_before, lots_from}
+use Rattle.runners_up.specs.inside.JointEnds.{AreGroupEnds, group_finishes, lots_from}
+use Rattle.cup_groups.specs.GroupStarts.{clubs_before}
 use Rattle.runners_up.specs.inside.JointEnds.{IsGroupEnd}
 
 -- ---- the state of each group

@@ -6,6 +6,7 @@ pub mod FarCandidateLemmas
 pub mod JointDrawnLemmas
 pub mod JointShownLemmas
 pub mod JointCodeLemmas
+pub mod GoallessLemmas
 pub mod AnyEndLemmas
 pub mod GroupsAskedLemmas
 pub mod GroupSurveyLemmas

@@ -12,12 +12,13 @@ use Rattle.cup_sheet.specs.declared.cup.Cup.{Cup}
 use Rattle.cup_sheet.specs.CupAnswers.{IsCupExample}
 use Rattle.cup_laws.proofs.GroupEndLemmas.{get_there}
 use Rattle.runners_up.specs.declared.joint.JointFinish.{JointFinish}
-use Rattle.runners_up.specs.declared.seat.ClubSeat.{ClubSeat}
+use Rattle.cup_groups.specs.declared.seat.ClubSeat.{ClubSeat}
 use Rattle.runners_up.specs.declared.survey.GroupSurvey.{GroupSurvey}
-use Rattle.runners_up.specs.inside.ClubSeats.{IsSeatOf}
+use Rattle.cup_groups.specs.inside.ClubSeats.{IsSeatOf}
 use Rattle.runners_up.specs.inside.GroupSurveys.{IsSurveyed}
 use Rattle.runners_up.specs.inside.JointCalls.{IsJointEnd}
-use Rattle.runners_up.specs.inside.JointEnds.{AreGroupEnds, IsShownGroup, IsSideShown, shown_groups}
+use Rattle.runners_up.specs.inside.JointEnds.{AreGroupEnds, IsShownGroup, IsSideShown}
+use Rattle.cup_sheet.specs.CupAnswers.{shown_groups}
 use Rattle.runners_up.specs.inside.JointEnds.{group_finishes}
 use Rattle.runners_up.specs.inside.SidesAtKeys.{IsOwnEnd}
 use Rattle.runners_up.proofs.GroupSurveyLemmas.{end_changed, ends_count}

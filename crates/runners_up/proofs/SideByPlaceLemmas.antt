@@ -12,8 +12,8 @@ use Rattle.cup_sheet.specs.declared.cup.Cup.{Cup}
 use Rattle.cup_sheet.specs.CupAnswers.{IsCupExample}
 use Rattle.cup_laws.proofs.GroupEndLemmas.{get_there}
 use Rattle.runners_up.specs.declared.joint.JointFinish.{JointFinish}
-use Rattle.runners_up.specs.declared.seat.ClubSeat.{ClubSeat}
-use Rattle.runners_up.specs.inside.ClubSeats.{IsSeatIn, IsSeatOf}
+use Rattle.cup_groups.specs.declared.seat.ClubSeat.{ClubSeat}
+use Rattle.cup_groups.specs.inside.ClubSeats.{IsSeatIn, IsSeatOf}
 use Rattle.runners_up.specs.inside.JointCalls.{IsJointEnd}
 use Rattle.runners_up.specs.inside.JointEnds.{AreGroupEnds, group_finishes}
 use Rattle.runners_up.specs.inside.SidesByPlace.{IsOwnGroup, IsPlaceEnd}

@@ -13,11 +13,11 @@ use Rattle.cup_sheet.specs.Cups.{IsCup}
 use Rattle.cup_sheet.specs.JointFinishes.{GroupState, states_from, states_of}
 use Rattle.group_search.specs.inside.GroupTasks.{new_group_tree}
 use Rattle.runners_up.specs.declared.survey.EmptyGroup.{EmptyGroup}
-use Rattle.runners_up.specs.declared.seat.ClubSeat.{ClubSeat}
-use Rattle.runners_up.specs.inside.ClubSeats.{IsSeatOf}
+use Rattle.cup_groups.specs.declared.seat.ClubSeat.{ClubSeat}
+use Rattle.cup_groups.specs.inside.ClubSeats.{IsSeatOf}
 use Rattle.runners_up.specs.inside.GroupsAsked.{other_question}
 use Rattle.runners_up.specs.inside.GroupSurveys.{IsEmptyGroup, group_numbers}
-use Rattle.runners_up.specs.inside.JointEnds.{clubs_before}
+use Rattle.cup_groups.specs.GroupStarts.{clubs_before}
 use Rattle.runners_up.specs.inside.SideLaws.{RefutedSidesAreRefuted}
 use Rattle.runners_up.specs.inside.SideLaws.{OpenGroupsLeaveSidesOpen}
 use Rattle.runners_up.specs.inside.SidesByPlace.{IsOwnGroup}
@@ -149,7 +149,7 @@ club_of cup seasons club seat sheet season at own =
     }
 
 pub sides_are_refuted : RefutedSidesAreRefuted
-sides_are_refuted cup seasons claim club seat key place outer listed is_cup at is =
+sides_are_refuted cup seasons claim club seat key place nearer listed is_cup at is =
     let mine = state_in (clubs_before cup.groups seat.group) is.sheet is.season in
     let enough = is.enough in
     record {
@@ -157,7 +157,7 @@ sides_are_refuted cup seasons claim club seat key place outer listed is_cup at i
       own = seat.own;
       of_club = club_of cup seasons club seat is.sheet is.season at is.own;
       place = (new_group_tree is.by_place.cases, is.by_place.refuted);
-      outer = (new_group_tree is.by_key.cases, is.by_key.refuted);
+      nearer = (new_group_tree is.by_key.cases, is.by_key.refuted);
       count = take_count (listed_groups cup claim) (group_numbers listed)
           (omega (arith, enough, numbers_count listed));
       rising = take_rises 0 (listed_groups cup claim) (group_numbers listed) is.rising;

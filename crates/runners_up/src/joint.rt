@@ -4,12 +4,12 @@ ghost use Rattle.std.specs.Prelude.{◌≡◌, ◌<◌, ◌++◌, ℕ, Bool, Lis
 ghost use Rattle.std.specs.Prelude.{map, ◌+◌};
 ghost use Rattle.league_core.specs.game.Results.{Results};
 ghost use Rattle.cup_sheet.specs.Cups.{IsCup};
-ghost use Rattle.runners_up.specs.inside.ClubSeats.{IsSeatIn, seat_block};
+ghost use Rattle.cup_groups.specs.inside.ClubSeats.{IsSeatIn, seat_block};
 ghost use Rattle.runners_up.specs.inside.JointCalls.{IsJointEnd};
 ghost use Rattle.runners_up.specs.inside.JointEnds.{AreGroupEnds, is_drawn_early, is_in_turn};
 ghost use Rattle.runners_up.specs.inside.JointEnds.{joint_lots, lots_from};
 
-use crate::seat::ClubSeat;
+use cup_groups::ClubSeat;
 use cup_sheet::Cup;
 use league_core::{Claim, Listing, Lots, OutOfMemory};
 use std::alloc::{AllocError, Global};

@@ -3,14 +3,15 @@
 ghost use Rattle.std.specs.Prelude.{◌≡◌, IfOk};
 ghost use Rattle.league_core.specs.game.Seasons.{IsLeague};
 ghost use Rattle.club_keys.specs.inside.KeyEnds.{key_parts};
-ghost use Rattle.group_search.specs.inside.KindQuestions.{group_question_of};
+ghost use Rattle.cup_groups.specs.inside.KindQuestions.{group_question_of};
 ghost use Rattle.runners_up.specs.inside.GroupsAsked.{other_question, IsGroupAsked};
 ghost use Rattle.runners_up.specs.inside.GroupsAsked.{asked_together, IsClubNoted};
 
 use club_keys::ClubKey;
+use cup_groups::KindQuestion;
 use cup_sheet::{GroupKind, GroupReason};
 use depth_search::{CaseNode, SearchEnd};
-use group_search::{KindQuestion, solve_group};
+use group_search::solve_group;
 use league_core::{Claim, OutOfMemory, Season, Sheet};
 use std::alloc::{AllocError, Global};
 use tree_arena::Example;

@@ -3,18 +3,18 @@
 ghost use Rattle.std.specs.Prelude.{◌≡◌, ◌<◌, [], IfOk};
 ghost use Rattle.cup_sheet.specs.Cups.{IsCup, AreSeasonsOf};
 ghost use Rattle.cup_sheet.specs.KeyBounds.{place_kind};
-ghost use Rattle.group_search.specs.inside.KindQuestions.{group_question_of};
-ghost use Rattle.runners_up.specs.inside.ClubSeats.{IsSeatIn};
+ghost use Rattle.cup_groups.specs.inside.KindQuestions.{group_question_of};
+ghost use Rattle.cup_groups.specs.inside.ClubSeats.{IsSeatIn};
 ghost use Rattle.runners_up.specs.inside.SidesByPlace.{IsPlaceEnd, IsPlaceShown, IsSideByPlace};
 
 use crate::any_end::any_ends;
 use crate::joint::{JointFinish, joint_finish};
 use crate::others::SpentQuestion;
-use crate::seat::ClubSeat;
 use club_keys::ClubKey;
+use cup_groups::{ClubSeat, KindQuestion};
 use cup_sheet::{Cup, GroupKind, GroupReason};
 use depth_search::{CaseNode, SearchEnd};
-use group_search::{KindQuestion, solve_group};
+use group_search::solve_group;
 use league_core::{Claim, OutOfMemory, Season};
 use std::alloc::Global;
 use tree_arena::Example;

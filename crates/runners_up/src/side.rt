@@ -2,18 +2,16 @@
 
 ghost use Rattle.std.specs.Prelude.{◌≡◌, IfOk};
 ghost use Rattle.club_keys.specs.inside.KeyEnds.{key_parts};
-ghost use Rattle.cup_sheet.specs.CupAnswers.{listed_groups};
 ghost use Rattle.cup_sheet.specs.Cups.{IsCup, AreSeasonsOf};
-ghost use Rattle.runners_up.specs.inside.ClubSeats.{IsSeatIn};
-ghost use Rattle.runners_up.specs.inside.JointEnds.{shown_groups};
+ghost use Rattle.cup_groups.specs.inside.ClubSeats.{IsSeatIn};
 ghost use Rattle.runners_up.specs.inside.SidesAtKeys.{IsOwnEnd, IsSideAtKey};
 
 use crate::any_end::any_ends;
 use crate::joint::{JointFinish, joint_finish};
-use crate::seat::ClubSeat;
 use crate::survey::{EmptyGroup, FarSide, GroupSurvey, OpenGroup, survey_groups};
+use cup_groups::{ClubSeat, listed_groups, shown_groups};
 use cup_sheet::Cup;
-use league_core::{Claim, OutOfMemory, Season};
+use league_core::{OutOfMemory, Season};
 use std::alloc::Global;
 use tree_arena::Example;
 
@@ -64,26 +62,4 @@ pub fn side_at_key(
         return Ok(SideAtKey::Refuted(listed));
     }
     Ok(SideAtKey::Spent(unknown.unwrap()))
-}
-
-// So many other groups show a side.
-fn shown_groups(cup: &Cup, claim: Claim) -> usize
-    requires { IsCup cup.now }
-    ensures { result ≡ shown_groups cup.now claim }
-{
-    match claim {
-        Claim::Outside => usize::from(cup.quota),
-        Claim::Inside => cup.groups.len() - usize::from(cup.quota),
-    }
-}
-
-/// How many other groups without a candidate on the far side refute a side.
-pub fn listed_groups(cup: &Cup, claim: Claim) -> usize
-    requires { IsCup cup.now }
-    ensures { result ≡ listed_groups cup.now claim }
-{
-    match claim {
-        Claim::Outside => cup.groups.len() - usize::from(cup.quota),
-        Claim::Inside => usize::from(cup.quota),
-    }
 }

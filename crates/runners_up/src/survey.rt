@@ -1,13 +1,15 @@
 //! What all other groups come to, for a key.
 
-ghost use Rattle.std.specs.Prelude.{◌<◌, IfOk, OnOk, length};
+ghost use Rattle.std.specs.Prelude.{◌<◌, ◌↔◌, IfOk, IsTrue, OnOk, length};
 ghost use Rattle.club_keys.specs.inside.KeyEnds.{key_parts};
 ghost use Rattle.cup_sheet.specs.Cups.{IsCup, AreSeasonsOf};
-ghost use Rattle.runners_up.specs.inside.GroupSurveys.{IsSurveyed, IsGroupNoted};
+ghost use Rattle.runners_up.specs.inside.GroupSurveys.{AreGroupsEnough, IsGroupNoted};
+ghost use Rattle.runners_up.specs.inside.GroupSurveys.{IsSurveyOver};
 ghost use Rattle.runners_up.specs.inside.JointEnds.{AreGroupEnds};
 
 use crate::others::{GroupAsked, SpentQuestion, ask_group};
 use club_keys::ClubKey;
+use cup_groups::{listed_groups, shown_groups};
 use cup_sheet::{Cup, GroupReason};
 use depth_search::CaseNode;
 use league_core::{Claim, OutOfMemory, Season};
@@ -41,7 +43,7 @@ pub struct OpenGroup {
     pub spent: SpentQuestion,
 }
 
-/// What the groups but one come to.
+/// What the groups but one come to, as far as they were asked.
 #[derive(Drop)]
 pub struct GroupSurvey {
     /// An end of each group.
@@ -54,8 +56,8 @@ pub struct GroupSurvey {
     pub unknown: Option<OpenGroup>,
 }
 
-/// Asks each group but one. The ends are those of all groups; a group that can end with a
-/// candidate on the far side has its end changed to such a one.
+/// Asks each group but one, until it is known which side they show. The ends are those of all
+/// groups; a group that can end with a candidate on the far side has its end changed to such a one.
 pub fn survey_groups(
     alloc: Global,
     cup: &Cup,
@@ -66,8 +68,8 @@ pub fn survey_groups(
     requires cup { IsCup cup.now }
     requires seasons { AreSeasonsOf cup.now.groups seasons.now }
     requires ends { AreGroupEnds cup.now.groups seasons.now ends.items }
-    ensures { IfOk result (IsSurveyed cup.now seasons.now sought.now.claim
-        (key_parts sought.now.key) sought.now.mine ends.items (length cup.now.groups)) }
+    ensures { IfOk result (IsSurveyOver cup.now seasons.now sought.now.claim
+        (key_parts sought.now.key) sought.now.mine ends.items) }
 {
     let groups = cup.groups.as_slice();
     let mut survey = GroupSurvey {
@@ -77,6 +79,9 @@ pub fn survey_groups(
         unknown: None,
     };
     for group in 0..groups.len() as u8 {
+        if survey.has_enough(cup, sought.claim) {
+            return Ok(survey);
+        }
         if group != sought.mine {
             let at = group as usize;
             let asked = ask_group(alloc, &groups[at], &seasons[at], sought.claim, &sought.key)?;
@@ -87,6 +92,16 @@ pub fn survey_groups(
 }
 
 impl GroupSurvey {
+    // As many groups are shown as show the side, or as many are listed as refute it.
+    fn has_enough(&self, cup: &Cup, claim: Claim) -> bool
+        requires { IsCup cup.now }
+        ensures { IsTrue result ↔ AreGroupsEnough cup.now claim (length self.now.shown.items)
+            (length self.now.listed.items) }
+    {
+        self.shown.len() >= shown_groups(cup, claim)
+            || self.listed.len() >= listed_groups(cup, claim)
+    }
+
     // Keeps what one group more came to.
     fn note(&mut self, group: u8, asked: GroupAsked) -> Result<(), AllocError>
         requires { group < length self.old.ends.items }

@@ -1,9 +1,8 @@
 -- Each course has a whole text: what was played at an ask is a season of a sheet within the limits,
 -- and each such season has an answer, whatever is answered; and so has the end of an input.
 use Rattle.std.proofs.Common.{◌≡◌, ℕ, ◌<◌, Bool, true, false, eqb, List, [], ◌∷◌, ◌++◌, length, map}
-use Rattle.std.proofs.Common.{Option, None, Some, Result, Ok, Err, refl, ap, sym, ◌∙◌, subst, arith}
-use Rattle.std.proofs.Common.{if◌then◌else◌, append-nil}
-use Rattle.std.proofs.lemmas.List.{append_assoc}
+use Rattle.std.proofs.Common.{Option, None, Some, Result, Ok, Err, refl, sym, ◌∙◌, subst, arith}
+use Rattle.std.proofs.Common.{if◌then◌else◌}
 use Rattle.std.specs.Prelude.{All, IfSome}
 use Rattle.std.specs.List.{range_with_len}
 use Rattle.std.proofs.lemmas.Bool.{or_left, or_right, eq-eqb}
@@ -20,17 +19,15 @@ use Rattle.league_core.specs.game.Sums.{has_club, points_of, sum_of, goal_differ
 use Rattle.league_core.specs.inside.LotsFor.{best_place_of, worst_place_of}
 use Rattle.league_core.specs.game.Ranking.{are_lots}
 use Rattle.league_core.proofs.LotsLemmas.{lots_for_claim-are_lots}
-use Rattle.league_core.proofs.LogLemmas.{AreEventsOf-push, season_after_of, season_after_results}
+use Rattle.league_core.proofs.LogLemmas.{season_after_of, season_after_results}
 use Rattle.port_core.specs.declared.line.ReadStop.{ReadStop}
-use Rattle.port_core.specs.Contents.{Contents, ended, with_line}
+use Rattle.port_core.specs.Contents.{Contents}
 use Rattle.fixture_sheet.specs.declared.fault.SheetStop.{SheetStop}
 use Rattle.fixture_sheet.specs.Sheets.{sheet_reading_of}
 use Rattle.result_log.specs.declared.entry.Entry.{Entry}
-use Rattle.result_log.specs.declared.entry.Entry.TheVariants.{Change, Ask, Proofs, End}
+use Rattle.result_log.specs.declared.entry.Entry.TheVariants.{Change, Ask}
 use Rattle.result_log.specs.declared.fault.FeedFault.{FeedFault}
-use Rattle.result_log.proofs.FeedLemmas.{contents_may_come}
 use Rattle.result_log.specs.Feeds.{entry_in}
-use Rattle.result_log.specs.inside.FeedParts.{EntryReading, entry_reading_by}
 use Rattle.cert_text.specs.ExampleLines.{text_of_proof_lines}
 use Rattle.final_rank.proofs.PlaceLemmas.{best_is, worst_is}
 use Rattle.final_rank.proofs.TierLemmas.{below_clubs}
@@ -55,7 +52,7 @@ use Rattle.what_if.proofs.StepLemmas.{asks-unplayed, other-same, step-about}
 use Rattle.what_if.proofs.WhenLemmas.{when_there}
 use Rattle.command_words.specs.declared.command.Mode.TheVariants.{Verdicts, Table, Scores, WhatIf}
 use Rattle.command_words.specs.declared.command.Mode.TheVariants.{Save, Resume, Decide, Check}
-use Rattle.command_words.specs.declared.command.Mode.TheVariants.{Sample}
+use Rattle.command_words.specs.declared.command.Mode.TheVariants.{Groups, Sample}
 use Rattle.answer_rows.specs.AskedQuestions.{questions_of}
 use Rattle.pool_save.specs.declared.stop.SaveStop.{SaveStop}
 use Rattle.pool_save.specs.SavedReadings.{nothing_saved, saved_reading_of}
@@ -63,24 +60,26 @@ use Rattle.session_turns.proofs.SavedThereLemmas.{saved_there}
 use Rattle.session_turns.proofs.DecidedThereLemmas.{decided_there}
 use Rattle.pool_save.proofs.UnspentItemLemmas.{unspent_items_there}
 use Rattle.pool_save.specs.SavedAnswers.{IsItemText}
-use Rattle.run_ends.specs.declared.run_end.Cause.TheVariants as cause
-use Rattle.run_ends.specs.declared.run_end.RunEnd.{RunEnd}
 use Rattle.run_ends.specs.declared.run_end.RunEnd.TheVariants.{Complete, Refused}
 use Rattle.session_turns.specs.Plays.{Played}
-use Rattle.session_turns.specs.Courses.{Course, Origin, about_in, asked_about, asks_about, asks_at}
+use Rattle.session_turns.specs.Courses.{Course, Origin, about_in, asked_about, asks_about}
 use Rattle.session_turns.specs.Courses.{awaits_saved, course_after, course_after_saved}
 use Rattle.session_turns.specs.Courses.{course_at_ending}
-use Rattle.session_turns.specs.Courses.{course_after_proofs, course_by, course_closed, course_ended}
-use Rattle.session_turns.specs.Courses.{course_in, course_of, course_of_saved, first_origin}
-use Rattle.session_turns.specs.Courses.{nothing_after, outcome_at_save}
+use Rattle.session_turns.specs.Courses.{course_after_proofs, course_closed}
+use Rattle.session_turns.specs.Courses.{course_of, course_of_saved, first_origin}
+use Rattle.session_turns.specs.Courses.{outcome_at_save}
 use Rattle.run_ends.specs.InputEnds.{outcome_at_sheet}
-use Rattle.session_turns.specs.Courses.{saved_origin, with_asks}
-use Rattle.run_ends.specs.InputEnds.{outcome_at_stop, save_fault}
-use Rattle.run_ends.specs.Rows.{fault_row}
+use Rattle.session_turns.specs.Courses.{saved_origin}
+use Rattle.run_ends.specs.InputEnds.{save_fault}
 use Rattle.session_turns.specs.inside.Progress.{line_after}
 use Rattle.session_turns.specs.Answers.{IsAnswerTo, IsScoresText, IsVerdictsText, IsWhatIfText}
-use Rattle.session_turns.specs.Texts.{AreAnswers, IsLastText}
 use Rattle.session_turns.proofs.LimitLemmas.{GivesLimits, sheet-limits}
+use Rattle.run_ends.proofs.AnsweredCourseLemmas.{course-there}
+use Rattle.run_ends.proofs.RunTextLemmas.{HasAnswers, HasText, answers-one, ended-there}
+use Rattle.run_ends.specs.Courses.{course_ended, course_in, nothing_after}
+use Rattle.session_turns.specs.Courses.{feed_kind}
+use Rattle.session_turns.specs.Texts.{session_kind}
+use Rattle.run_ends.proofs.AnsweredCourseLemmas.{entry-may_come}
 
 -- ---- verdicts
 
@@ -213,82 +212,10 @@ answer-there (Resume proofs) asked league results can =
 answer-there (Decide proofs) asked league results can =
     decided_there proofs asked.sheet asked.season asked.epoch league results
 answer-there (Check wide) asked league results can = ([], refl)
+answer-there (Groups proofs) asked league results can = ([], refl)
 answer-there (Sample seed) asked league results can = ([], refl)
 
 -- ---- the asks of a course
-
--- there are whole answers to these asks
-abbrev pub HasAnswers : Mode → List Played → Type 0
-HasAnswers mode asks = (text : List ℕ) × AreAnswers mode asks text
-
--- answers and then more answers
-pub answers-append : (mode : Mode) (asks others : List Played) (written more : List ℕ)
-    → AreAnswers mode asks written → AreAnswers mode others more
-    → AreAnswers mode (asks ++ others) (written ++ more)
-answers-append mode [] others written more first second =
-    let P : List ℕ → Type 0 = λ t. AreAnswers mode others (t ++ more) in
-    subst P (sym first) second
-answers-append mode (asked ∷ asks) others written more first second = (
-  first.0,
-  first.1 ++ more,
-  ap (λ t. t ++ more) first.2 ∙ append_assoc first.0 first.1 more,
-  first.3,
-  answers-append mode asks others first.1 more first.4 second,
-)
-
--- one answer
-pub answers-one : (mode : Mode) (asked : Played) (answer : List ℕ)
-    → IsAnswerTo mode asked answer → AreAnswers mode (asked ∷ []) answer
-answers-one mode asked answer is = (answer, [], sym (append-nil answer), is, refl)
-
--- what is written last there
-abbrev pub HasLast : Course → Type 0
-HasLast course = (last : List ℕ) × IsLastText course.outcome course.closing last
-
--- the course has a whole text
-abbrev pub HasText : Mode → Course → Type 0
-HasText mode course = HasAnswers mode course.asks × HasLast course
-
--- so there are to the last of them
-answers-behind : (mode : Mode) (asks others : List Played)
-    → HasAnswers mode (asks ++ others) → HasAnswers mode others
-answers-behind mode [] others all = all
-answers-behind mode (asked ∷ asks) others all =
-    answers-behind mode asks others (all.1.1, all.1.4)
-
--- and so has the course after some asks
-pub text-left : (mode : Mode) (asks : List Played) (course : Course)
-    → HasText mode (with_asks asks course) → HasText mode course
-text-left mode asks course all = (answers-behind mode asks course.asks all.0, all.1)
-
--- asks at the front that have answers
-text-front : (mode : Mode) (asks : List Played) (course : Course)
-    → HasAnswers mode asks → HasText mode course → HasText mode (with_asks asks course)
-text-front mode asks course first more = (
-  (
-    first.0 ++ more.0.0,
-    answers-append mode asks course.asks first.0 more.0.0 first.1 more.0.1,
-  ),
-  more.1,
-)
-
--- a course that is ended
-ended-there : (mode : Mode) (outcome : RunEnd) → HasText mode (course_ended outcome)
-ended-there mode Complete = (([], refl), ([], refl))
-ended-there mode (Refused fault) = (([], refl), (fault_row fault, refl))
-
--- an event of a feed may come after events of the sheet
-entry-may_come : (proofs : Bool) (sheet : Sheet) (events : List Event) (content : List ℕ)
-    (event : Event) → AreEventsOf sheet events
-    → entry_in sheet (season_after sheet events) (epoch_of events) proofs content
-    ≡ Ok (Some (Change event))
-    → AreEventsOf sheet (events ++ event ∷ [])
-entry-may_come proofs sheet events content event of_sheet is =
-    let none : EntryReading = record { gives = Ok End; rest = ended (Ok 0) } in
-    AreEventsOf-push sheet events event of_sheet
-    (contents_may_come sheet (season_after sheet events) (epoch_of events) proofs
-    (with_line 0 content (ended (Ok 0))) (Change event) (season_after_of sheet events)
-    (ap (λ found. (entry_reading_by 0 (ended (Ok 0)) none found).gives) is)).0
 
 -- a line that tells an event is no `when`, and is read as in every feed
 change-back : (line : Result (Option AskStep) FeedFault) (event : Event)
@@ -337,16 +264,16 @@ module _ (mode : Mode) (origin : Origin) (events : List Event)
   -- one answer, if there is to be one
   ask-if : (silent : Bool) (about : Option ℕ)
       → CanBeAsked origin.sheet (season_after origin.sheet events) about
-      → HasAnswers mode (if silent then [] else asked_about origin events about ∷ [])
+      → HasAnswers (IsAnswerTo mode) (if silent then [] else asked_about origin events about ∷ [])
   ask-if true about can = ([], refl)
   ask-if false about can =
       let asked = asked_about origin events about in
       let found = answer-there mode asked league-there
       (season_after_results origin.sheet events of_sheet) can in
-      (found.0, answers-one mode asked found.0 found.1)
+      (found.0, answers-one (IsAnswerTo mode) asked found.0 found.1)
 
   -- the end of the input, where no saved text must come
-  closed-save : HasText Save (course_closed Save origin events)
+  closed-save : HasText (session_kind Save) (course_closed Save origin events)
   closed-save = (
     ([], refl),
     saved_there origin.sheet (season_after origin.sheet events) league-there
@@ -357,87 +284,63 @@ module _ (mode : Mode) (origin : Origin) (events : List Event)
 asks-there : (mode : Mode) (origin : Origin) (events : List Event) → IsWithinLimits origin.sheet
     → AreEventsOf origin.sheet events → (about : Option ℕ)
     → CanBeAsked origin.sheet (season_after origin.sheet events) about
-    → HasAnswers mode (asks_about mode origin events about)
+    → HasAnswers (IsAnswerTo mode) (asks_about mode origin events about)
 asks-there Save origin events limits of_sheet about can = ([], refl)
 asks-there mode origin events limits of_sheet about can =
     ask-if mode origin events limits of_sheet (awaits_saved mode origin.saved) about can
 
 -- so has the end of the input
 closed-there : (mode : Mode) (origin : Origin) (events : List Event) → IsWithinLimits origin.sheet
-    → AreEventsOf origin.sheet events → HasText mode (course_closed mode origin events)
+    → AreEventsOf origin.sheet events → HasText (session_kind mode) (course_closed mode origin
+    events)
 closed-there Save origin events limits of_sheet = closed-save Save origin events limits of_sheet
-closed-there mode origin events limits of_sheet = ended-there mode Complete
+closed-there mode origin events limits of_sheet = ended-there (session_kind mode) Complete
 
 -- a course that goes on by what comes or does not
-text-if : (mode : Mode) (is : Bool) (one other : Course) → HasText mode one → HasText mode other
-    → HasText mode (if is then one else other)
+text-if : (mode : Mode) (is : Bool) (one other : Course) → HasText (session_kind mode) one
+    → HasText (session_kind mode) other
+    → HasText (session_kind mode) (if is then one else other)
 text-if mode true one other first second = first
 text-if mode false one other first second = second
 
 -- where the lines end
-ending-there : (mode : Mode) (origin : Origin) (ending : Result ℕ ReadStop) (events : List Event)
+ending-there : (mode : Mode) (origin : Origin) (number : ℕ) (events : List Event)
     → IsWithinLimits origin.sheet → AreEventsOf origin.sheet events
-    → HasText mode (course_at_ending mode origin ending events)
-ending-there mode origin (Ok number) events limits of_sheet =
+    → HasText (session_kind mode) (course_at_ending mode origin number events)
+ending-there mode origin number events limits of_sheet =
     text-if mode (awaits_saved mode origin.saved) (course_ended (Refused (save_fault number)))
-    (course_closed mode origin events) (ended-there mode (Refused (save_fault number)))
+    (course_closed mode origin events)
+    (ended-there (session_kind mode) (Refused (save_fault number)))
     (closed-there mode origin events limits of_sheet)
-ending-there mode origin (Err stop) events limits of_sheet =
-    ended-there mode (outcome_at_stop stop)
 
 -- after any events of the sheet there is a whole text
 abbrev pub HasTexts : Mode → Sheet → (List Event → Course) → Type 0
 HasTexts mode sheet onward =
-    (events : List Event) → AreEventsOf sheet events → HasText mode (onward events)
-
--- where lines have texts after any events of the sheet, a line before them has, by what it is
-line-there : (mode : Mode) (origin : Origin) (line : ℕ × List ℕ)
-    (proofs onward : List Event → Course) (events : List Event) → IsWithinLimits origin.sheet
-    → AreEventsOf origin.sheet events → HasTexts mode origin.sheet proofs
-    → HasTexts mode origin.sheet onward → (found : Result (Option Entry) FeedFault)
-    → line_after mode origin events line.1 ≡ found
-    → HasText mode (course_by mode origin line proofs onward events found)
-line-there mode origin line proofs onward events limits of_sheet saved behind (Ok None) is =
-    behind events of_sheet
-line-there mode origin line proofs onward events limits of_sheet saved behind
-    (Ok (Some (Change event))) is =
-    behind (events ++ event ∷ [])
-    (event-may_come mode origin events line.1 event of_sheet is)
-line-there mode origin line proofs onward events limits of_sheet saved behind (Ok (Some Ask)) is =
-    text-front mode (asks_at mode origin events line.1) (onward events)
-    (asks-there mode origin events limits of_sheet (about_in mode line.1)
-    (line-can mode origin events line.1 is))
-    (behind events of_sheet)
-line-there mode origin line proofs onward events limits of_sheet saved behind (Ok (Some Proofs)) is
-    = saved events of_sheet
-line-there mode origin line proofs onward events limits of_sheet saved behind (Ok (Some End)) is =
-    closed-there mode origin events limits of_sheet
-line-there mode origin line proofs onward events limits of_sheet saved behind (Err fault) is =
-    ended-there mode (Refused (record { number = line.0; cause = cause.Feed fault }))
+    (events : List Event) → AreEventsOf sheet events → HasText (session_kind mode) (onward events)
 
 -- the course of these lines has a whole text
 lines-there : (mode : Mode) (origin : Origin) (behind : List Event → Contents → Course)
     (lines : List (ℕ × List ℕ)) (ending : Result ℕ ReadStop) → IsWithinLimits origin.sheet
     → ((rest : Contents) → HasTexts mode origin.sheet (λ next. behind next rest))
-    → HasTexts mode origin.sheet (course_in mode origin behind lines ending)
-lines-there mode origin behind [] ending limits saved events of_sheet =
-    ending-there mode origin ending events limits of_sheet
-lines-there mode origin behind (line ∷ lines) ending limits saved events of_sheet =
-    line-there mode origin line (λ next. behind next (record { lines = lines; ending = ending }))
-    (course_in mode origin behind lines ending) events limits of_sheet
-    (saved (record { lines = lines; ending = ending }))
-    (lines-there mode origin behind lines ending limits saved)
-    (line_after mode origin events line.1) refl
+    → HasTexts mode origin.sheet (course_in (feed_kind mode origin) behind lines ending)
+lines-there mode origin behind lines ending limits saved events of_sheet =
+    course-there (session_kind mode) (feed_kind mode origin) (AreEventsOf origin.sheet)
+    (λ log content event are is. event-may_come mode origin log content event are is)
+    (λ log content are is. asks-there mode origin log limits are (about_in mode content)
+    (line-can mode origin log content is))
+    (λ log are. closed-there mode origin log limits are)
+    (λ number log are. ending-there mode origin number log limits are)
+    behind lines ending saved events of_sheet
 
 -- after a saved text
 saved-there_behind : (mode : Mode) (sheet : Sheet) → IsWithinLimits sheet → (events : List Event)
     → AreEventsOf sheet events → (rest : Contents) (gives : Result (List (Option Tree)) SaveStop)
-    → HasText mode (course_after_saved mode sheet events rest gives)
+    → HasText (session_kind mode) (course_after_saved mode sheet events rest gives)
 saved-there_behind mode sheet limits events of_sheet rest (Ok trees) =
     lines-there mode (saved_origin sheet events trees) nothing_after rest.lines rest.ending limits
-    (λ more next are. ended-there mode Complete) events of_sheet
+    (λ more next are. ended-there (session_kind mode) Complete) events of_sheet
 saved-there_behind mode sheet limits events of_sheet rest (Err stop) =
-    ended-there mode (outcome_at_save stop)
+    ended-there (session_kind mode) (outcome_at_save stop)
 
 -- after a record `proofs`
 behind-there : (mode : Mode) (origin : Origin) → IsWithinLimits origin.sheet → (rest : Contents)
@@ -447,20 +350,20 @@ behind-there mode origin limits rest events of_sheet =
     text-if mode (awaits_saved mode origin.saved)
     (course_of_saved mode origin.sheet events reading) (course_ended Complete)
     (saved-there_behind mode origin.sheet limits events of_sheet reading.rest reading.gives)
-    (ended-there mode Complete)
+    (ended-there (session_kind mode) Complete)
 
 -- the course of any contents has a whole text
 pub session-answered : (mode : Mode) (contents : Contents)
-    → HasText mode (course_of mode contents)
+    → HasText (session_kind mode) (course_of mode contents)
 session-answered mode contents =
     let reading = sheet_reading_of contents None in
     by_gives reading.gives reading.rest (sheet-limits contents)
   where
     by_gives : (gives : Result Sheet SheetStop) (rest : Contents) → GivesLimits gives
-        → HasText mode (course_after mode gives rest)
+        → HasText (session_kind mode) (course_after mode gives rest)
     by_gives (Ok sheet) rest limits =
         let origin = first_origin sheet in
         lines-there mode origin (course_after_proofs mode origin) rest.lines rest.ending limits
         (behind-there mode origin limits) []
         (All-nil (IsEventOf (unplayed_season (length sheet.clubs) (length sheet.fixtures))))
-    by_gives (Err stop) rest limits = ended-there mode (outcome_at_sheet stop)
+    by_gives (Err stop) rest limits = ended-there (session_kind mode) (outcome_at_sheet stop)

@@ -10,7 +10,6 @@ use Rattle.fixture_sheet.specs.LastReads.{ReadsOnWay}
 use Rattle.fixture_sheet.specs.inside.Calls.{CountsSheet}
 use Rattle.fixture_sheet.specs.inside.SheetReads.{StopsAtSheet}
 use Rattle.result_log.specs.declared.fault.FeedStop.{FeedStop}
-use Rattle.result_log.specs.declared.fault.FeedStop.TheVariants as feed_stop
 use Rattle.result_log.specs.inside.Calls.{CountsEntry, MovesToEntry}
 use Rattle.result_log.specs.inside.FeedParts.{LiveReading}
 use Rattle.result_log.specs.inside.Rounds.{EndsRound, Spot}
@@ -20,25 +19,25 @@ use Rattle.plain_rounds.specs.declared.round.RoundEnd.{RoundEnd}
 use Rattle.plain_rounds.specs.declared.round.RoundEnd.TheVariants.{Ask, End, Stop}
 use Rattle.plain_rounds.specs.inside.Rounds.{close_of}
 use Rattle.run_ends.specs.declared.status.Status.{Status}
-use Rattle.run_ends.specs.declared.status.Status.TheVariants.{Done, BadWords, BadSheet, BadFeed}
-use Rattle.run_ends.specs.declared.status.Status.TheVariants.{ReadFault, WriteFault, OutOfMemory}
-use Rattle.run_ends.specs.declared.status.Status.TheVariants.{NotProved, TooLong}
+use Rattle.run_ends.specs.declared.status.Status.TheVariants.{ReadFault}
 use Rattle.command_words.specs.declared.command.Mode.{Mode}
 use Rattle.session_turns.specs.declared.turn.Step.{Step}
 use Rattle.session_turns.specs.declared.turn.Step.TheVariants.{GoesOn, Ends}
-use Rattle.session_turns.specs.LastReads.{StopsSession, fresh_reader}
 use Rattle.session_turns.specs.inside.TurnReads.{HasComeToPool, TurnStops}
 use Rattle.session_turns.specs.Courses.{saved_at}
 use Rattle.session_turns.specs.inside.Progress.{IsOriginOf, PathToPool, line_after, round_line}
 use Rattle.session_turns.specs.inside.RoundHalts.{IsReportedIn}
-use Rattle.run_ends.specs.inside.Stops.{CountsEnd, CountsStop, StopEnds, stop_of_feed}
+use Rattle.run_ends.specs.inside.Stops.{CountsStop, StopEnds, stop_of_feed}
 use Rattle.run_ends.specs.inside.Stops.{stop_of_sheet}
 use Rattle.session_turns.specs.inside.Halts.{IsAboutAt}
 use Rattle.session_turns.specs.inside.Turns.{CloseGives, CountsClose, CountsTurn, TurnCounts}
 use Rattle.session_turns.specs.inside.Turns.{TurnGives, TurnGoesOn, TurnIsLive}
 use Rattle.session_turns.proofs.LastReadLemmas.{feed-stops, round-goes_on, round-stops, sheet-ends}
 use Rattle.session_turns.proofs.OriginLemmas.{origin-next, origin-reads}
-use Rattle.session_turns.proofs.RoundLemmas.{round-ask, round-end, round-stop}
+use Rattle.session_turns.proofs.RoundLemmas.{mode-end, mode-stop, round-ask}
+use Rattle.run_ends.specs.LastReads.{StopsSession, fresh_reader}
+use Rattle.session_turns.specs.LastReads.{LeadSession}
+use Rattle.run_ends.proofs.RunEndLemmas.{counts-end, counts-feed}
 
 -- ---- the way
 
@@ -58,11 +57,11 @@ module _ (mode : Mode) (input : Option (List ℕ)) (told0 : Bool) (pool next : P
       turn ends refl of_pool about_is (gives (saved_at path.0 next.log) of_pool.kept)
   origin-gives End (GoesOn other) ends of_pool about_is gives = absurd gives
   origin-gives End (Ends status) ends of_pool about_is gives =
-      round-end mode input told0 path.0 pool.log next.log from to old now0 path.2 next now1 status
+      mode-end mode input told0 path.0 pool.log next.log from to old now0 path.2 next now1 status
       ends refl of_pool gives
   origin-gives (Stop stop) (GoesOn other) ends of_pool about_is gives = absurd gives
   origin-gives (Stop stop) (Ends status) ends of_pool about_is gives =
-      round-stop mode input told0 path.0 pool.log next.log from to old now0 path.2 stop now1
+      mode-stop mode input told0 path.0 pool.log next.log from to old now0 path.2 stop now1
       status ends gives
 
   -- from the pool before it
@@ -96,35 +95,12 @@ close-goes_on mode pool about end old now (Ends status) reader new sheet same mo
 
 -- ---- the counts of faults
 
--- a run that ends, if the source did not fail
-pub end-counts : (reads reads' writes writes' : ℕ) (status : Status) → reads' ≡ reads
-    → CountsEnd writes writes' status → TurnCounts reads reads' writes writes' (Ends status)
-end-counts reads reads' writes writes' Done same counts = ((same, counts), tt)
-end-counts reads reads' writes writes' BadWords same counts = absurd counts
-end-counts reads reads' writes writes' BadSheet same counts = ((same, counts), tt)
-end-counts reads reads' writes writes' BadFeed same counts = ((same, counts), tt)
-end-counts reads reads' writes writes' ReadFault same counts = absurd counts
-end-counts reads reads' writes writes' WriteFault same counts = ((same, counts), tt)
-end-counts reads reads' writes writes' OutOfMemory same counts = ((same, counts), tt)
-end-counts reads reads' writes writes' NotProved same counts = absurd counts
-end-counts reads reads' writes writes' TooLong same counts = ((same, counts), tt)
-
 -- after an ask
 ask-counts : (reads reads' writes writes' : ℕ) (turn : Step) → reads' ≡ reads
     → CountsTurn writes writes' turn → TurnCounts reads reads' writes writes' turn
 ask-counts reads reads' writes writes' (GoesOn next) same counts = (same, counts)
 ask-counts reads reads' writes writes' (Ends status) same counts =
-    end-counts reads reads' writes writes' status same counts
-
--- after a stop
-stop-counts : (reads reads' writes writes' : ℕ) (stop : FeedStop) (status : Status)
-    → CountsEntry reads reads' (Err stop) → CountsStop (stop_of_feed stop) writes writes' status
-    → TurnCounts reads reads' writes writes' (Ends status)
-stop-counts reads reads' writes writes' (feed_stop.Read read_stop.ReadFault) status rose counts =
-    let P : Status → Type 0 = λ s. TurnCounts reads reads' writes writes' (Ends s) in
-    subst P (sym counts.0) ((rose, counts.1), tt)
-stop-counts reads reads' writes writes' stop status same counts =
-    end-counts reads reads' writes writes' status same counts
+    counts-end reads reads' writes writes' status same counts
 
 -- after a stop in place of a sheet
 pub sheet-counts : (reads reads' writes writes' : ℕ) (stop : SheetStop) (status : Status)
@@ -135,7 +111,7 @@ sheet-counts reads reads' writes writes' (sheet_stop.Read read_stop.ReadFault) s
     let P : Status → Type 0 = λ s. TurnCounts reads reads' writes writes' (Ends s) in
     subst P (sym counts.0) ((rose, counts.1), tt)
 sheet-counts reads reads' writes writes' stop status same counts =
-    end-counts reads reads' writes writes' status same counts
+    counts-end reads reads' writes writes' status same counts
 
 -- whatever ended the round
 pub close-counts : (reads reads' writes writes' : ℕ) (end : RoundEnd) (turn : Step)
@@ -145,10 +121,10 @@ close-counts reads reads' writes writes' Ask turn same counts =
     ask-counts reads reads' writes writes' turn same counts
 close-counts reads reads' writes writes' End (GoesOn next) same counts = absurd counts
 close-counts reads reads' writes writes' End (Ends status) same counts =
-    end-counts reads reads' writes writes' status same counts
+    counts-end reads reads' writes writes' status same counts
 close-counts reads reads' writes writes' (Stop stop) (GoesOn next) cause counts = absurd counts
 close-counts reads reads' writes writes' (Stop stop) (Ends status) cause counts =
-    stop-counts reads reads' writes writes' stop status cause counts
+    counts-feed reads reads' writes writes' stop status cause counts
 
 -- ---- the last read
 
@@ -159,7 +135,7 @@ module _ {S : Type 0} (left : S → Option (List ℕ)) (reads : S → List ℕ �
   origin-stops : (status : Status)
       → ReadsOnWay left reads (GivesEvents (line_after mode come.0) pool.log) reader new
       before after
-      → StopsSession left reads mode first after status
+      → StopsSession left reads (LeadSession mode) first after status
   origin-stops status ways =
       round-stops left reads first reader new before after mode come.0 pool.log come.2 ways
       status
@@ -169,7 +145,7 @@ module _ {S : Type 0} (left : S → Option (List ℕ)) (reads : S → List ℕ �
       → StopsAtClose left reads (line_after mode come.0) pool.log reader new before after
       (Err stop)
       → StopEnds (stop_of_feed stop) old now status
-      → StopsSession left reads mode first after status
+      → StopsSession left reads (LeadSession mode) first after status
   stop-last stop old now status ways stops =
       feed-stops left reads first reader new before after mode come.0 pool.log come.2 stop ways old
       now status stops
@@ -222,7 +198,7 @@ module _ {S : Type 0} (left : S → Option (List ℕ)) (reads : S → List ℕ �
   -- where no memory was found
   pub starved-last : ReadsOnWay left reads (GivesEvents (round_line mode pool.sheet) pool.log)
       reader new before after
-      → (status : Status) → StopsSession left reads mode first after status
+      → (status : Status) → StopsSession left reads (LeadSession mode) first after status
   starved-last ways status =
       let P : LiveReading → Type 0 =
       λ live. ReadsOnWay left reads (GivesEvents live pool.log) reader new before after in
@@ -235,9 +211,9 @@ module _ {S : Type 0} (left : S → Option (List ℕ)) (reads : S → List ℕ �
   pub sheet-last : (stop : SheetStop) (old now : Option (List ℕ)) (status : Status)
       → StopsAtSheet left reads reader new before after (Err stop)
       → StopEnds (stop_of_sheet stop) old now status
-      → StopsSession left reads mode before after status
+      → StopsSession left reads (LeadSession mode) before after status
   sheet-last (sheet_stop.Read read_stop.ReadFault) old now status ways stops =
-      let P : Status → Type 0 = λ s. StopsSession left reads mode before after s in
+      let P : Status → Type 0 = λ s. StopsSession left reads (LeadSession mode) before after s in
       subst P (sym stops.0) tt
   sheet-last stop old now status ways stops =
       sheet-ends left reads mode reader new before after fresh takes status ways

@@ -17,13 +17,15 @@ use Rattle.pool_save.specs.SavedItems.{IsSavedOf}
 use Rattle.command_words.specs.declared.command.Mode.{Mode}
 use Rattle.command_words.specs.declared.command.Mode.TheVariants.{Verdicts, Table, Scores, WhatIf}
 use Rattle.command_words.specs.declared.command.Mode.TheVariants.{Save, Resume, Decide, Check}
-use Rattle.command_words.specs.declared.command.Mode.TheVariants.{Sample}
+use Rattle.command_words.specs.declared.command.Mode.TheVariants.{Groups, Sample}
 use Rattle.run_ends.specs.declared.status.Status.TheVariants.{Done, OutOfMemory}
 use Rattle.run_ends.specs.declared.run_end.RunEnd.TheVariants.{Complete}
 use Rattle.session_turns.specs.Plays.{Played}
-use Rattle.session_turns.specs.Texts.{IsLastText}
-use Rattle.session_turns.specs.inside.Turns.{EndGives, IsLive, PutsClosing, closing_of}
+use Rattle.session_turns.specs.inside.Turns.{IsLive, PutsClosing, closing_of}
 use Rattle.league_core.proofs.plain.Streams.{append_known-nothing}
+use Rattle.run_ends.specs.Texts.{IsLastText}
+use Rattle.run_ends.specs.inside.RunTurns.{EndGives}
+use Rattle.session_turns.specs.Texts.{IsSavedText}
 
 -- no work was done on the trees before the end, so all of them are new
 pub saved-new : (pool next : PoolView) → IsLive Save pool → WorksTo pool next → AreAllNew next
@@ -35,7 +37,8 @@ EndsPlain mode =
     ((proofs : Bool) × (mode ≡ Verdicts proofs)) ⊎ ((mode ≡ Table) ⊎ ((mode ≡ Scores)
     ⊎ ((mode ≡ WhatIf) ⊎ (((proofs : Bool) × (mode ≡ Resume proofs))
     ⊎ (((proofs : Bool) × (mode ≡ Decide proofs)) ⊎ (((wide : Bool) × (mode ≡ Check wide))
-    ⊎ ((seed : ℕ) × (mode ≡ Sample seed))))))))
+    ⊎ (((proofs : Bool) × (mode ≡ Groups proofs))
+    ⊎ ((seed : ℕ) × (mode ≡ Sample seed)))))))))
 
 closing-none : (mode : Mode) (pool : PoolView) → EndsPlain mode → closing_of mode pool ≡ None
 closing-none mode pool (inl is) = ap (λ m. closing_of m pool) is.1
@@ -46,28 +49,31 @@ closing-none mode pool (inr (inr (inr (inr (inl is))))) = ap (λ m. closing_of m
 closing-none mode pool (inr (inr (inr (inr (inr (inl is)))))) = ap (λ m. closing_of m pool) is.1
 closing-none mode pool (inr (inr (inr (inr (inr (inr (inl is))))))) =
     ap (λ m. closing_of m pool) is.1
-closing-none mode pool (inr (inr (inr (inr (inr (inr (inr is))))))) =
+closing-none mode pool (inr (inr (inr (inr (inr (inr (inr (inl is)))))))) =
+    ap (λ m. closing_of m pool) is.1
+closing-none mode pool (inr (inr (inr (inr (inr (inr (inr (inr is)))))))) =
     ap (λ m. closing_of m pool) is.1
 
 pub plain-gives : (mode : Mode) (pool : PoolView) (old : Option (List ℕ)) → EndsPlain mode
-    → EndGives (closing_of mode pool) old old Done
+    → EndGives (IsLastText IsSavedText Complete (closing_of mode pool)) old old Done
 plain-gives mode pool old ends =
-    let P : Option Played → Type 0 = λ closing. IsLastText Complete closing [] in
+    let P : Option Played → Type 0 = λ closing. IsLastText IsSavedText Complete closing [] in
     ([], subst P (sym (closing-none mode pool ends)) refl, append_known-nothing old)
 
 -- out of memory in the mode `save`
 starved-as : (A : Type 0) (mode : Mode) (pool : PoolView) (old now : Option (List ℕ))
     (stop : OutputStop) → mode ≡ Save → stop ≡ output.OutOfMemory
     → PutsClosing {A = A} (closing_of Save pool) old now (Err stop)
-    → EndGives (closing_of mode pool) old now OutOfMemory
+    → EndGives (IsLastText IsSavedText Complete (closing_of mode pool)) old now OutOfMemory
 starved-as A mode pool old now output.OutOfMemory is memory gives =
-    subst (λ m. EndGives (closing_of m pool) old now OutOfMemory) (sym is) gives
+    subst (λ m. EndGives (IsLastText IsSavedText Complete (closing_of m pool)) old now OutOfMemory)
+    (sym is) gives
 starved-as A mode pool old now output.WriteFault is memory gives = cc
 
 pub starved-gives : {A : Type 0} (mode : Mode) (pool : PoolView) (old now : Option (List ℕ))
     (result : Result A OutputStop) (stop : OutputStop) → result ≡ Err stop → mode ≡ Save
     → stop ≡ output.OutOfMemory → PutsClosing (closing_of Save pool) old now result
-    → EndGives (closing_of mode pool) old now OutOfMemory
+    → EndGives (IsLastText IsSavedText Complete (closing_of mode pool)) old now OutOfMemory
 starved-gives {A = A} mode pool old now result stop same is memory gives =
     starved-as A mode pool old now stop is memory
     (subst (λ r. PutsClosing (closing_of Save pool) old now r) same gives)

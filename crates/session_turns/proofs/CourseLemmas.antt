@@ -1,115 +1,31 @@
--- Courses line by line: lines that tell events, an ask, a refused line, the record `proofs`; and
--- that the course of any contents is that of the feed that they are.
+-- The course of any contents is that of the feed that they are.
 use Rattle.std.proofs.Common.{◌≡◌, ℕ, false, List, [], ◌∷◌, ◌++◌, Option, Some, None, Result}
-use Rattle.std.proofs.Common.{Ok, Err, refl, ap, ap₂, sym, ◌∙◌, if◌then◌else◌}
+use Rattle.std.proofs.Common.{Ok, Err, refl, ap, ap₂, ◌∙◌, if◌then◌else◌}
 use Rattle.std.specs.Prelude.{All}
-use Rattle.std.proofs.lemmas.List.{append_assoc}
 use Rattle.std.proofs.lemmas.List.Elements.{All-nil, All-cons, All-head, All-tail}
 use Rattle.league_core.specs.declared.season.Event.{Event}
 use Rattle.league_core.specs.game.Seasons.{epoch_of, season_after}
 use Rattle.port_core.specs.declared.line.ReadStop.{ReadStop}
-use Rattle.port_core.specs.Contents.{Contents, with_line, with_lines}
+use Rattle.port_core.specs.Contents.{Contents}
 use Rattle.result_log.specs.declared.entry.Entry.{Entry}
 use Rattle.result_log.specs.declared.entry.Entry.TheVariants.{Change, Ask, Proofs, End}
 use Rattle.result_log.specs.declared.fault.FeedFault.{FeedFault}
 use Rattle.result_log.specs.Feeds.{entry_in, feed_by, feed_from, feed_of}
-use Rattle.result_log.specs.inside.Rounds.{ReadsEvents, live_entry, read_on}
+use Rattle.result_log.specs.inside.Rounds.{live_entry}
 use Rattle.what_if.proofs.StepLemmas.{other-same}
 use Rattle.pool_save.specs.SavedReadings.{nothing_saved}
 use Rattle.command_words.specs.declared.command.Mode.{Mode}
 use Rattle.command_words.specs.declared.command.Mode.TheVariants.{WhatIf}
-use Rattle.run_ends.specs.declared.run_end.Cause.TheVariants as cause
 use Rattle.run_ends.specs.declared.run_end.RunEnd.TheVariants.{Complete, Refused}
-use Rattle.session_turns.specs.Plays.{Played}
-use Rattle.session_turns.specs.Courses.{Course, Origin, about_in, asks_about, asks_at, awaits_saved}
-use Rattle.session_turns.specs.Courses.{course_after_proofs, course_by, course_closed, course_ended}
-use Rattle.session_turns.specs.Courses.{course_from, course_from_saved, course_in, with_asks}
+use Rattle.session_turns.specs.Courses.{Origin, about_in, asks_about, awaits_saved}
+use Rattle.session_turns.specs.Courses.{course_after_proofs, course_closed}
+use Rattle.session_turns.specs.Courses.{course_from, course_from_saved}
 use Rattle.run_ends.specs.InputEnds.{save_fault}
 use Rattle.session_turns.specs.inside.FeedCourses.{IsFeedIn, course_of_feed}
 use Rattle.session_turns.specs.inside.Progress.{line_after}
-
--- more asks after the first ones
-pub asks-joined : (asks others : List Played) (course : Course)
-    → with_asks asks (with_asks others course) ≡ with_asks (asks ++ others) course
-asks-joined asks others course =
-    ap (λ all. record { asks = all; outcome = course.outcome; closing = course.closing })
-    (sym (append_assoc asks others course.asks))
-
--- ---- line by line
-
--- the course after a line that tells an event, or holds no record, is that of what comes after it
-told-course : (mode : Mode) (origin : Origin) (log : List Event) (line : ℕ × List ℕ)
-    (proofs after : List Event → Course) (onward : List Event → Type 0) (whole : Course)
-    → ((next : List Event) → onward next → after next ≡ whole)
-    → (found : Result (Option Entry) FeedFault) → read_on found onward log
-    → course_by mode origin line proofs after log found ≡ whole
-told-course mode origin log line proofs after onward whole behind (Ok None) told =
-    behind log told
-told-course mode origin log line proofs after onward whole behind (Ok (Some (Change event))) told =
-    behind _ told
-told-course mode origin log line proofs after onward whole behind (Ok (Some Ask)) told =
-    absurd told
-told-course mode origin log line proofs after onward whole behind (Ok (Some Proofs)) told =
-    absurd told
-told-course mode origin log line proofs after onward whole behind (Ok (Some End)) told =
-    absurd told
-told-course mode origin log line proofs after onward whole behind (Err fault) told = absurd told
-
-module _ (mode : Mode) (origin : Origin) (behind : List Event → Contents → Course) where
-  -- so is that after all lines of a round
-  tells-course : (log log' : List Event) (lines more : List (ℕ × List ℕ))
-      (ending : Result ℕ ReadStop) → ReadsEvents (line_after mode origin) log lines log'
-      → course_in mode origin behind (lines ++ more) ending log
-      ≡ course_in mode origin behind more ending log'
-  tells-course log log' [] more ending told =
-      ap (course_in mode origin behind more ending) (sym told)
-  tells-course log log' (line ∷ lines) more ending told =
-      told-course mode origin log line
-      (λ next. behind next (record { lines = lines ++ more; ending = ending }))
-      (course_in mode origin behind (lines ++ more) ending)
-      (λ next. ReadsEvents (line_after mode origin) next lines log')
-      (course_in mode origin behind more ending log')
-      (λ next telling. tells-course next log' lines more ending telling)
-      (line_after mode origin log line.1) told
-
-pub course-told : (mode : Mode) (origin : Origin) (log log' : List Event)
-    (lines : List (ℕ × List ℕ)) (rest : Contents)
-    → ReadsEvents (line_after mode origin) log lines log'
-    → course_from mode origin log (with_lines lines rest) ≡ course_from mode origin log' rest
-course-told mode origin log log' lines rest told =
-    tells-course mode origin (course_after_proofs mode origin) log log' lines rest.lines rest.ending
-    told
-
-module _ (mode : Mode) (origin : Origin) (log : List Event) (number : ℕ)
-    (text : List ℕ) (rest : Contents) where
-  -- the course from a line on is what the line makes of the course after it
-  course-line : (found : Result (Option Entry) FeedFault) → line_after mode origin log text ≡ found
-      → course_from mode origin log (with_line number text rest)
-      ≡ course_by mode origin (number, text) (λ next. course_after_proofs mode origin next rest)
-      (λ next. course_from mode origin next rest) log found
-  course-line found is =
-      ap (course_by mode origin (number, text) (λ next. course_after_proofs mode origin next rest)
-      (λ next. course_from mode origin next rest) log) is
-
-  -- an ask stands before what comes after it
-  pub course-ask : line_after mode origin log text ≡ Ok (Some Ask)
-      → course_from mode origin log (with_line number text rest)
-      ≡ with_asks (asks_at mode origin log text) (course_from mode origin log rest)
-  course-ask is = course-line (Ok (Some Ask)) is
-
-  -- a refused line ends it
-  pub course-refused : (fault : FeedFault) → line_after mode origin log text ≡ Err fault
-      → course_from mode origin log (with_line number text rest)
-      ≡ course_ended (Refused (record { number = number; cause = cause.Feed fault }))
-  course-refused fault is = course-line (Err fault) is
-
-  -- after the record `proofs` a saved text comes, if one must come yet
-  pub course-proofs : line_after mode origin log text ≡ Ok (Some Proofs)
-      → course_from mode origin log (with_line number text rest)
-      ≡ course_after_proofs mode origin log rest
-  course-proofs is = course-line (Ok (Some Proofs)) is
-
--- ---- the course of a feed
+use Rattle.run_ends.proofs.FeedCourseLemmas.{asks-joined}
+use Rattle.run_ends.specs.Courses.{course_by, course_ended, course_in, with_asks}
+use Rattle.session_turns.specs.Courses.{feed_kind}
 
 -- a line that asks about no fixture is read as in every feed, where no saved text must come
 feed-line : (mode : Mode) (origin : Origin) (events : List Event) (content : List ℕ)
@@ -129,9 +45,9 @@ feed-by : (mode : Mode) (origin : Origin) (line : ℕ × List ℕ)
     → course_from mode origin events (record { lines = lines; ending = ending })
     ≡ course_of_feed mode origin events (feed_from origin.sheet false lines ending events))
     → (events : List Event) (found : Result (Option Entry) FeedFault)
-    → course_by mode origin line
+    → course_by (feed_kind mode origin) line
     (λ next. course_after_proofs mode origin next (record { lines = lines; ending = ending }))
-    (course_in mode origin (course_after_proofs mode origin) lines ending) events found
+    (course_in (feed_kind mode origin) (course_after_proofs mode origin) lines ending) events found
     ≡ course_of_feed mode origin events (feed_by line.0 (record { lines = lines; ending = ending })
     (feed_from origin.sheet false lines ending) events found)
 feed-by mode origin line lines ending none plain behind events (Ok None) = behind events
@@ -156,7 +72,7 @@ IsAboutNone mode line = about_in mode line.1 ≡ None
 feed-from : (mode : Mode) (origin : Origin) (lines : List (ℕ × List ℕ))
     (ending : Result ℕ ReadStop) → awaits_saved mode origin.saved ≡ false
     → All (IsAboutNone mode) lines → (events : List Event)
-    → course_in mode origin (course_after_proofs mode origin) lines ending events
+    → course_in (feed_kind mode origin) (course_after_proofs mode origin) lines ending events
     ≡ course_of_feed mode origin events (feed_from origin.sheet false lines ending events)
 feed-from mode origin [] (Ok number) plain none events =
     ap (λ awaits.
@@ -165,9 +81,9 @@ feed-from mode origin [] (Ok number) plain none events =
 feed-from mode origin [] (Err stop) plain none events = refl
 feed-from mode origin (line ∷ lines) ending plain none events =
     let first = All-head (IsAboutNone mode) line lines none in
-    ap (course_by mode origin line
+    ap (course_by (feed_kind mode origin) line
     (λ next. course_after_proofs mode origin next (record { lines = lines; ending = ending }))
-    (course_in mode origin (course_after_proofs mode origin) lines ending) events)
+    (course_in (feed_kind mode origin) (course_after_proofs mode origin) lines ending) events)
     (feed-line mode origin events line.1 first plain)
     ∙ feed-by mode origin line lines ending first plain
     (feed-from mode origin lines ending plain (All-tail (IsAboutNone mode) line lines none)) events

@@ -1,13 +1,10 @@
--- Courses, sheets and stops; that each ask has an answer; the way of a session, and its turns.
+-- Courses and sheets; that each ask has an answer; the way of a session, and its turns.
 pub mod CourseLemmas
 pub mod SheetLemmas
-pub mod StopLemmas
 pub mod LimitLemmas
 pub mod SavedThereLemmas
 pub mod DecidedThereLemmas
 pub mod AnsweredLemmas
-pub mod TextLemmas
-pub mod EndLemmas
 pub mod AnswerLemmas
 pub mod TurnLemmas
 pub mod OriginLemmas

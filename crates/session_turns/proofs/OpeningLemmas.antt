@@ -52,34 +52,42 @@ use Rattle.run_ends.specs.declared.refuse.InputStop.{InputStop}
 use Rattle.run_ends.specs.declared.refuse.InputStop.TheVariants as input_stop
 use Rattle.run_ends.specs.declared.run_end.RunEnd.TheVariants.{Refused}
 use Rattle.run_ends.specs.declared.run_end.Fault.{Fault}
-use Rattle.session_turns.specs.Courses.{Course, awaits_saved, course_ended}
+use Rattle.session_turns.specs.Courses.{Course, awaits_saved}
 use Rattle.session_turns.specs.Courses.{course_from, course_from_saved, course_of, course_of_saved}
 use Rattle.session_turns.specs.Courses.{first_origin, outcome_at_save}
 use Rattle.run_ends.specs.InputEnds.{input_fault, line_fault}
-use Rattle.session_turns.specs.Courses.{saved_origin, with_asks}
+use Rattle.session_turns.specs.Courses.{saved_origin}
 use Rattle.run_ends.specs.InputEnds.{save_fault}
-use Rattle.session_turns.specs.Top.{Serves}
-use Rattle.session_turns.specs.LastReads.{IsOnCourse, LeadToFeed, LeadToSavedBy, StopsSession}
-use Rattle.session_turns.specs.LastReads.{fresh_reader}
-use Rattle.session_turns.specs.inside.Progress.{IsOpened, IsOriginOf, KeepsSaved, Path}
+use Rattle.session_turns.specs.LastReads.{LeadToFeed, LeadToSavedBy}
+use Rattle.session_turns.specs.inside.Progress.{IsOpened, IsOriginOf, KeepsSaved}
 use Rattle.session_turns.specs.inside.Progress.{line_after}
 use Rattle.session_turns.specs.declared.turn.Step.{Step}
 use Rattle.session_turns.specs.declared.turn.Step.TheVariants.{GoesOn, Ends}
 use Rattle.run_ends.specs.inside.Stops.{CountsStop, stop_of_feed}
 use Rattle.session_turns.specs.inside.SavedStops.{EndsBefore, stop_of_save}
 use Rattle.session_turns.specs.inside.TurnReads.{HasComeTo, HasComeToPool, HasComeToSaved}
-use Rattle.session_turns.specs.inside.TurnReads.{Stands, StopsBy, TurnStops}
+use Rattle.session_turns.specs.inside.TurnReads.{StopsBy, TurnStops}
 use Rattle.session_turns.specs.inside.Turns.{CountsOpeningStop, IsLive, IsUnworked, SavedGives}
 use Rattle.session_turns.specs.inside.Turns.{ServesBy, TurnCounts, TurnGives, TurnIsLive}
-use Rattle.session_turns.proofs.CourseLemmas.{course-ask, course-proofs}
-use Rattle.session_turns.proofs.CloseLemmas.{end-counts}
-use Rattle.session_turns.proofs.LastReadLemmas.{proofs-stands, round-course, stands-on, stops-any}
-use Rattle.session_turns.proofs.LastReadLemmas.{told-front, told-nothing}
+use Rattle.session_turns.proofs.LastReadLemmas.{proofs-stands, round-course}
 use Rattle.session_turns.proofs.OriginLemmas.{origin-none}
-use Rattle.session_turns.proofs.RoundLemmas.{OnwardKnown, ends-onward, onward, onward-path}
-use Rattle.session_turns.proofs.RoundLemmas.{round-stop, serves-as, turn-fails, turn-fault}
-use Rattle.session_turns.proofs.RoundLemmas.{turn-starved}
+use Rattle.session_turns.proofs.RoundLemmas.{mode-onward}
+use Rattle.session_turns.proofs.RoundLemmas.{mode-stop}
 use Rattle.session_turns.proofs.SheetLemmas.{same-lines}
+use Rattle.run_ends.proofs.FeedCourseLemmas.{course-ask, course-proofs}
+use Rattle.run_ends.proofs.RunRoundLemmas.{OnwardKnown, onward, onward-path, serves-as, turn-fails}
+use Rattle.run_ends.proofs.RunRoundLemmas.{turn-fault, turn-starved}
+use Rattle.run_ends.proofs.StandLemmas.{stands-on, stops-any, told-front, told-nothing}
+use Rattle.run_ends.specs.Courses.{course_ended, with_asks}
+use Rattle.run_ends.specs.LastReads.{Stands, StopsSession, fresh_reader}
+use Rattle.run_ends.specs.Runs.{Serves}
+use Rattle.run_ends.specs.inside.Ways.{Path}
+use Rattle.session_turns.proofs.AnsweredLemmas.{session-answered}
+use Rattle.session_turns.proofs.TurnLemmas.{ended-as}
+use Rattle.session_turns.specs.Courses.{course_after_proofs, feed_kind}
+use Rattle.session_turns.specs.LastReads.{LeadSession}
+use Rattle.session_turns.specs.Texts.{session_kind}
+use Rattle.run_ends.proofs.RunEndLemmas.{counts-end}
 
 -- ---- the modes
 
@@ -106,12 +114,14 @@ pub begun-gives : (mode : Mode) (input : Option (List ℕ)) (ended : Bool)
     (left old now : Option (List ℕ))
     (sheet : Sheet) (pool : PoolView) → awaits_saved mode None ≡ false → pool.sheet ≡ sheet
     → pool.log ≡ []
-    → Path mode input ended stream ended' position (course_from mode (first_origin sheet) []) old
+    → Path (session_kind mode) input ended stream ended' position (course_from mode (first_origin
+    sheet) []) old
     now
     → TurnGives mode input ended stream ended' position left old now (GoesOn pool)
 begun-gives mode input ended stream ended' position left old now sheet pool is same none path =
     let P : List Event → Type 0 =
-    λ log. Path mode input ended stream ended' position (course_from mode (first_origin sheet) log)
+    λ log. Path (session_kind mode) input ended stream ended' position (course_from mode
+    (first_origin sheet) log)
     old now in
     (first_origin sheet, fresh-origin mode sheet pool is same, subst P (sym none) path)
 
@@ -133,21 +143,23 @@ pub opened-gives : (mode : Mode) (input : Option (List ℕ)) (ended : Bool)
     → awaits_saved mode None ≡ true → pool.sheet ≡ sheet → pool.log ≡ []
     → (from : Option (List ℕ)) (ended0 : Bool) (start : Position)
     → ((proofs : Bool)
-    → Path (Resume proofs) input ended from ended0 start
+    → Path (session_kind (Resume proofs)) input ended from ended0 start
     (course_from (Resume proofs) (first_origin pool.sheet) pool.log) old now
     → TurnGives (Resume proofs) input ended stream ended' position left old now' turn)
-    → Path mode input ended from ended0 start (course_from mode (first_origin sheet) []) old now
+    → Path (session_kind mode) input ended from ended0 start (course_from mode (first_origin sheet)
+    []) old now
     → TurnGives mode input ended stream ended' position left old now' turn
 opened-gives mode input ended stream ended' position left old now now' sheet pool turn is same none
     from ended0 start gives =
-    by-resume (λ m. Path m input ended from ended0 start (course_from m (first_origin sheet) []) old
+    by-resume (λ m. Path (session_kind m) input ended from ended0 start (course_from m
+    (first_origin sheet) []) old
     now → TurnGives m input ended stream ended' position left old now' turn)
     (λ proofs path.
     let P : Sheet → Type 0 =
-    λ s. Path (Resume proofs) input ended from ended0 start
+    λ s. Path (session_kind (Resume proofs)) input ended from ended0 start
     (course_from (Resume proofs) (first_origin s) []) old now in
     let Q : List Event → Type 0 =
-    λ log. Path (Resume proofs) input ended from ended0 start
+    λ log. Path (session_kind (Resume proofs)) input ended from ended0 start
     (course_from (Resume proofs) (first_origin pool.sheet) log) old now in
     gives proofs (subst Q (sym none) (subst P (sym same) path)))
     mode is
@@ -210,36 +222,41 @@ stopped-as last stop is = sym (ap (answer_as (λ it. it)) is)
 
 module _ (proofs : Bool) (input : Option (List ℕ)) (told0 : Bool) (sheet : Sheet)
     (log log' : List Event) (from to : Spot) (old now : Option (List ℕ))
-    (path : Path (Resume proofs) input told0 (stream_of from.reader from.left) from.ended
+    (path : Path (session_kind (Resume proofs)) input told0 (stream_of from.reader from.left)
+    from.ended
     from.reader.position (course_from (Resume proofs) (first_origin sheet) log) old now) where
   -- an ask is not answered
   pub opening-ask : EndsRound (line_after (Resume proofs) (first_origin sheet)) log log' from to
       (Ok Ask)
-      → Path (Resume proofs) input told0 (stream_of to.reader to.left) to.ended to.reader.position
+      → Path (session_kind (Resume proofs)) input told0 (stream_of to.reader to.left) to.ended
+      to.reader.position
       (course_from (Resume proofs) (first_origin sheet) log') old now
   opening-ask ends =
       let origin = first_origin sheet in
-      onward-path (Resume proofs) input (stream_of to.reader to.left) told0 to.ended
+      onward-path (session_kind (Resume proofs)) input (stream_of to.reader to.left) told0 to.ended
       to.reader.position ((to.reader.position.lines, to.reader.text) ∷ [])
       (course_from (Resume proofs) origin log') (course_from (Resume proofs) origin log') old now
-      (ends-onward (Resume proofs) input told0 origin log log' from to old now path (Ok Ask) ends)
-      (λ rest. course-ask (Resume proofs) origin log' to.reader.position.lines to.reader.text rest
+      (mode-onward (Resume proofs) input told0 origin log log' from to old now path (Ok Ask) ends)
+      (λ rest. course-ask (feed_kind (Resume proofs) origin)
+      (course_after_proofs (Resume proofs) origin) log' to.reader.position.lines to.reader.text rest
       ends.comes)
 
   -- the record `proofs` leads to the saved text
   pub opening-proofs : EndsRound (line_after (Resume proofs) (first_origin sheet)) log log' from to
       (Ok Proofs)
-      → Path (Resume proofs) input told0 (stream_of to.reader to.left) to.ended to.reader.position
+      → Path (session_kind (Resume proofs)) input told0 (stream_of to.reader to.left) to.ended
+      to.reader.position
       (course_from_saved (Resume proofs) sheet log' nothing_saved) old now
   opening-proofs ends =
       let origin = first_origin sheet in
-      onward-path (Resume proofs) input (stream_of to.reader to.left) told0 to.ended
+      onward-path (session_kind (Resume proofs)) input (stream_of to.reader to.left) told0 to.ended
       to.reader.position ((to.reader.position.lines, to.reader.text) ∷ [])
       (course_from (Resume proofs) origin log')
       (course_from_saved (Resume proofs) sheet log' nothing_saved) old now
-      (ends-onward (Resume proofs) input told0 origin log log' from to old now path (Ok Proofs)
+      (mode-onward (Resume proofs) input told0 origin log log' from to old now path (Ok Proofs)
       ends)
-      (λ rest. course-proofs (Resume proofs) origin log' to.reader.position.lines to.reader.text
+      (λ rest. course-proofs (feed_kind (Resume proofs) origin)
+      (course_after_proofs (Resume proofs) origin) log' to.reader.position.lines to.reader.text
       rest ends.comes)
 
   -- nothing comes at the end
@@ -259,10 +276,11 @@ module _ (proofs : Bool) (input : Option (List ℕ)) (told0 : Bool) (sheet : She
       → ServesBy (Resume proofs) input to.left to.ended old now
       (input_stop.Refused (save_fault (number_at to.reader.position)))
   opening-end ends = λ now' status stops.
-      turn-fault (Resume proofs) told0 to.ended to.reader.position
+      turn-fault (session_kind (Resume proofs))
+      (session-answered (Resume proofs)) told0 to.ended to.reader.position
       (course_from (Resume proofs) (first_origin sheet) log') old now to.left now' status input
       (stream_of to.reader to.left) [] (save_fault (number_at to.reader.position))
-      (ends-onward (Resume proofs) input told0 (first_origin sheet) log log' from to old now path
+      (mode-onward (Resume proofs) input told0 (first_origin sheet) log log' from to old now path
       (Ok End) ends)
       (end-there to.reader.held to.left ends.leaves.1 ends.leaves.2) stops
 
@@ -271,16 +289,20 @@ module _ (proofs : Bool) (input : Option (List ℕ)) (told0 : Bool) (sheet : She
       → EndsRound (line_after (Resume proofs) (first_origin sheet)) log log' from to (Err stop)
       → ServesBy (Resume proofs) input to.left to.ended old now (stop_of_feed stop)
   opening-stop stop ends = λ now' status stops.
-      round-stop (Resume proofs) input told0 (first_origin sheet) log log' from to old now path stop
+      mode-stop (Resume proofs) input told0 (first_origin sheet) log log' from to old now path stop
       now' status ends stops
 
   -- running out of memory
   pub opening-starved : ServesBy (Resume proofs) input to.left to.ended old now
       input_stop.OutOfMemory
   opening-starved = λ now' status stops.
-      serves-as (Resume proofs) input told0 (first_origin sheet) log log' from to old now path
+      serves-as (session_kind (Resume proofs)) (session-answered (Resume proofs))
+      (feed_kind (Resume proofs) (first_origin sheet))
+      (course_after_proofs (Resume proofs) (first_origin sheet)) input told0 log log' from to old
+      now path
       status OutOfMemory now' stops.0 stops.1
-      (turn-starved (Resume proofs) input told0 (stream_of from.reader from.left) from.ended
+      (turn-starved (session_kind (Resume proofs))
+      (session-answered (Resume proofs)) input told0 (stream_of from.reader from.left) from.ended
       from.reader.position (course_from (Resume proofs) (first_origin sheet) log) to.left to.ended
       old now path)
 
@@ -320,7 +342,8 @@ module _ {S : Type 0} (left : S → Option (List ℕ)) (reads : S → List ℕ �
               (passed-to-come reader new (left before) (left after) x y
               (ends.lines ++ (new.position.lines, new.text) ∷ []) ends.passes)
               ends.tells
-              (λ rest. course-proofs (Resume proofs) origin log' new.position.lines new.text rest
+              (λ rest. course-proofs (feed_kind (Resume proofs) origin)
+              (course_after_proofs (Resume proofs) origin) log' new.position.lines new.text rest
               ends.comes);
           takes = TakesInput-more fresh_reader reader new _ _ _ come.takes ends.takes;
           last = round-course left reads first reader new before after (Resume proofs) origin log
@@ -373,7 +396,8 @@ module _ (proofs : Bool) (sheet : Sheet) (log : List Event) where
 module _ (proofs : Bool) (input : Option (List ℕ)) (told0 : Bool) (reader new : LineReaderView)
     (left left' : Option (List ℕ)) (told told' : Bool) (sheet : Sheet) (log : List Event)
     (old now : Option (List ℕ))
-    (path : Path (Resume proofs) input told0 (stream_of reader left) told reader.position
+    (path : Path (session_kind (Resume proofs)) input told0 (stream_of reader left) told
+    reader.position
     (course_from_saved (Resume proofs) sheet log nothing_saved) old now) where
   -- over lines that lead on
   over : (given last : List (ℕ × List ℕ)) (next : Contents → Course)
@@ -381,25 +405,28 @@ module _ (proofs : Bool) (input : Option (List ℕ)) (told0 : Bool) (reader new 
       → IfSome (contents_to_come reader left) (λ contents. (rest : Contents)
       → course_from_saved (Resume proofs) sheet log nothing_saved (with_lines given rest)
       ≡ next rest)
-      → OnwardKnown (Resume proofs) input (stream_of new left') told0 told' new.position last next
+      → OnwardKnown (session_kind (Resume proofs)) input (stream_of new left') told0 told'
+      new.position last next
       old now
   over given last next passes leads =
       by input (stream_of reader left) path passes leads
     where
       by : (shown before : Option (List ℕ))
-          → Path (Resume proofs) shown told0 before told reader.position
+          → Path (session_kind (Resume proofs)) shown told0 before told reader.position
           (course_from_saved (Resume proofs) sheet log nothing_saved) old now
           → PassesKnown reader.position before told new.position (stream_of new left') told'
           (given ++ last)
           → IfSome (contents_after reader.position before) (λ contents. (rest : Contents)
           → course_from_saved (Resume proofs) sheet log nothing_saved (with_lines given rest)
           ≡ next rest)
-          → OnwardKnown (Resume proofs) shown (stream_of new left') told0 told' new.position last
+          → OnwardKnown (session_kind (Resume proofs)) shown (stream_of new left') told0 told'
+          new.position last
           next old now
       by None before way passed on = tt
       by (Some bytes) None way passed on = absurd way
       by (Some bytes) (Some before) way passed on =
-          onward (Resume proofs) (Some bytes) told0 (Some before) told (stream_of new left') told'
+          onward (session_kind (Resume proofs)) (Some bytes) told0 (Some before) told (stream_of
+          new left') told'
           reader.position new.position given last
           (course_from_saved (Resume proofs) sheet log nothing_saved) next old now way passed on
 
@@ -408,14 +435,15 @@ module _ (proofs : Bool) (input : Option (List ℕ)) (told0 : Bool) (reader new 
       → PassesUpTo reader new left left' told told' (Ok (line.Text new.position.lines))
       → ReadsSavedAs sheet (questions_of sheet) (contents_to_come reader left)
       (contents_to_come new left') (Ok trees)
-      → Path (Resume proofs) input told0 (stream_of new left') told' new.position
+      → Path (session_kind (Resume proofs)) input told0 (stream_of new left') told' new.position
       (course_from (Resume proofs) (saved_origin sheet log trees) log) old now
   saved-path trees passes read =
       let given = passes.0 ++ (new.position.lines, new.text) ∷ [] in
       let from = course_from (Resume proofs) (saved_origin sheet log trees) log in
       let P : List (ℕ × List ℕ) → Type 0 =
       λ all. PassesTo reader new left left' told told' all in
-      onward-path (Resume proofs) input (stream_of new left') told0 told' new.position [] from from
+      onward-path (session_kind (Resume proofs)) input (stream_of new left') told0 told'
+      new.position [] from from
       old now
       (over given [] from (subst P (sym (append-nil given)) passes.1)
       (read-there proofs sheet log given (contents_to_come reader left)
@@ -432,7 +460,9 @@ module _ (proofs : Bool) (input : Option (List ℕ)) (told0 : Bool) (reader new 
       → ServesBy (Resume proofs) input left' told' old now (input_stop.Refused fault)
   saved-fault given stop fault passes read is = λ now' status ends.
       let from = course_from_saved (Resume proofs) sheet log nothing_saved in
-      turn-fault (Resume proofs) told0 told' new.position from old now left' now' status input
+      turn-fault (session_kind (Resume proofs))
+      (session-answered (Resume proofs)) told0 told' new.position from old now left' now' status
+      input
       (stream_of new left') given fault
       (over [] given from passes (all-there (contents_to_come reader left)))
       (fault-there (contents_to_come new left')
@@ -454,7 +484,7 @@ module _ (proofs : Bool) (input : Option (List ℕ)) (told0 : Bool) (reader new 
           course_from_saved (Resume proofs) sheet log nothing_saved (with_lines given rest)
           ≡ course_ended (Refused fault))
       fault-there None there = tt
-      fault-there (Some rest) there = there ∙ ap course_ended is
+      fault-there (Some rest) there = there ∙ ended-as is
 
   -- the source failed in it
   saved-fails : (front : List (ℕ × List ℕ))
@@ -462,15 +492,15 @@ module _ (proofs : Bool) (input : Option (List ℕ)) (told0 : Bool) (reader new 
       → ReadsSaved sheet (questions_of sheet) (contents_to_come reader left)
       (contents_to_come new left') (Err (save_stop.Read stop.ReadFault))
       → HasNoLineFeed new.held
-      → Serves (Resume proofs) input left' told' old now ReadFault
+      → Serves (session_kind (Resume proofs)) input left' told' old now ReadFault
   saved-fails front passes read no_feed =
       let state = read.0 in
-      turn-fails (Resume proofs) told0 told' new.position
+      turn-fails (session_kind (Resume proofs)) told0 told' new.position
       (course_from_saved (Resume proofs) sheet log state) old now input new.held left'
       (over front [] (course_from_saved (Resume proofs) sheet log state) passes
       (leads-there (contents_to_come reader left) (contents_to_come new left')
       (passed-to-come reader new left left' told told' (front ++ []) passes) read.1))
-      no_feed refl (inr (inr refl))
+      no_feed refl (inr (inr (inr refl)))
     where
       leads-there : (before after : Option Contents) → LeadOver before after (front ++ [])
           → LeadsSaved sheet (questions_of sheet) before after read.0
@@ -492,11 +522,13 @@ module _ (proofs : Bool) (input : Option (List ℕ)) (told0 : Bool) (reader new 
   -- running out of memory
   pub saved-starved : ServesBy (Resume proofs) input left' told' old now input_stop.OutOfMemory
   saved-starved = λ now' status ends.
-      let P : Status → Type 0 = λ s. Serves (Resume proofs) input left' told' old now' s in
+      let P : Status → Type 0 = λ s. Serves (session_kind (Resume proofs)) input left' told' old
+      now' s in
       let Q : Option (List ℕ) → Type 0 =
-      λ n. Serves (Resume proofs) input left' told' old n OutOfMemory in
+      λ n. Serves (session_kind (Resume proofs)) input left' told' old n OutOfMemory in
       subst P (sym ends.0) (subst Q (sym ends.1)
-      (turn-starved (Resume proofs) input told0 (stream_of reader left) told reader.position
+      (turn-starved (session_kind (Resume proofs))
+      (session-answered (Resume proofs)) input told0 (stream_of reader left) told reader.position
       (course_from_saved (Resume proofs) sheet log nothing_saved) left' told' old now path))
 
   -- whatever came in place of its trees
@@ -517,9 +549,10 @@ module _ (proofs : Bool) (input : Option (List ℕ)) (told0 : Bool) (reader new 
       saved-fault (passes.0 ++ []) (save_stop.Read (stop.InputTooLong number)) (input_fault number)
       passes.1 read refl
   stopped-there A (save_stop.Read stop.ReadFault) passes read leaves = λ now' status ends.
-      let P : Status → Type 0 = λ s. Serves (Resume proofs) input left' told' old now' s in
+      let P : Status → Type 0 = λ s. Serves (session_kind (Resume proofs)) input left' told' old
+      now' s in
       let Q : Option (List ℕ) → Type 0 =
-      λ n. Serves (Resume proofs) input left' told' old n ReadFault in
+      λ n. Serves (session_kind (Resume proofs)) input left' told' old n ReadFault in
       subst P (sym ends.0) (subst Q (sym ends.1) (saved-fails passes.0 passes.1 read leaves.0))
   stopped-there A save_stop.OutOfMemory passes read leaves = saved-starved
 
@@ -573,14 +606,14 @@ taken-live pool next trees taken live =
 pub taken-gives : (proofs : Bool) (input : Option (List ℕ)) (ended : Bool) (pool next : PoolView)
     (trees : List (Option Tree)) (stream : Option (List ℕ)) (ended' : Bool) (position : Position)
     (left old now : Option (List ℕ)) → TakesUp pool trees next → IsUnworked pool
-    → Path (Resume proofs) input ended stream ended' position
+    → Path (session_kind (Resume proofs)) input ended stream ended' position
     (course_from (Resume proofs) (saved_origin pool.sheet pool.log trees) pool.log) old now
     → SavedGives (Resume proofs) input ended stream ended' position left old now (Ok next)
 taken-gives proofs input ended pool next trees stream ended' position left old now taken unworked
     path =
     let origin = saved_origin pool.sheet pool.log trees in
     let P : List Event → Type 0 =
-    λ log. Path (Resume proofs) input ended stream ended' position
+    λ log. Path (session_kind (Resume proofs)) input ended stream ended' position
     (course_from (Resume proofs) origin log) old now in (
       origin,
       taken-origin proofs pool next trees taken unworked,
@@ -593,7 +626,8 @@ taken-gives proofs input ended pool next trees stream ended' position left old n
 saved-on_course : (proofs : Bool) (sheet : Sheet) (log : List Event)
     (before mid after : Option Contents)
     → Stands (λ taken. LeadToSavedBy (Resume proofs) taken sheet log nothing_saved) before mid
-    → LeadsToState sheet (questions_of sheet) mid after → IsOnCourse (Resume proofs) before after
+    → LeadsToState sheet (questions_of sheet) mid after
+    → Stands (LeadSession (Resume proofs)) before after
 saved-on_course proofs sheet log None mid after stands leads = tt
 saved-on_course proofs sheet log (Some before) None after stands leads = absurd stands
 saved-on_course proofs sheet log (Some before) (Some mid) None stands leads =
@@ -624,9 +658,9 @@ module _ {S : Type 0} (left : S → Option (List ℕ)) (reads : S → List ℕ �
     -- what was read of it was read on the course
     saved-way : ReadsOnWay left reads (LeadsToState pool.sheet (questions_of pool.sheet)) reader new
         before after
-        → ReadsOnWay left reads (IsOnCourse (Resume proofs)) fresh_reader new first after
+        → ReadsOnWay left reads (Stands (LeadSession (Resume proofs))) fresh_reader new first after
     saved-way ways =
-        way-more left reads (IsOnCourse (Resume proofs))
+        way-more left reads (Stands (LeadSession (Resume proofs)))
         (LeadsToState pool.sheet (questions_of pool.sheet)) fresh_reader reader new first before
         after
         (λ mid leads. saved-on_course proofs pool.sheet pool.log
@@ -639,9 +673,10 @@ module _ {S : Type 0} (left : S → Option (List ℕ)) (reads : S → List ℕ �
         → StopsBySave pool.sheet (questions_of pool.sheet) left reads reader new before after stop
         → StopsBy left reads (Resume proofs) first after (stop_of_save stop)
     saved-ends (save_stop.Read stop.ReadFault) ways = λ old now status ends.
-        subst (λ s. StopsSession left reads (Resume proofs) first after s) (sym ends.0) tt
+        subst (λ s. StopsSession left reads (LeadSession (Resume proofs)) first after s) (sym
+        ends.0) tt
     saved-ends stop ways = λ old now status ends.
-        stops-any left reads (Resume proofs) new first after status (saved-way ways)
+        stops-any left reads (LeadSession (Resume proofs)) new first after status (saved-way ways)
 
     -- memory runs out after it
     pub taken-ends : ReadsOnWay left reads (LeadsToState pool.sheet (questions_of pool.sheet))
@@ -649,7 +684,7 @@ module _ {S : Type 0} (left : S → Option (List ℕ)) (reads : S → List ℕ �
         new before after
         → StopsBy left reads (Resume proofs) first after input_stop.OutOfMemory
     taken-ends ways = λ old now status ends.
-        stops-any left reads (Resume proofs) new first after status (saved-way ways)
+        stops-any left reads (LeadSession (Resume proofs)) new first after status (saved-way ways)
 
     -- where the session stands after it
     saved-stands : (trees : List (Option Tree)) (given : List (ℕ × List ℕ))
@@ -736,6 +771,6 @@ opened-counts reads reads' writes writes' input_stop.ReadFault status rose count
     let P : Status → Type 0 = λ s. TurnCounts reads reads' writes writes' (Ends s) in
     subst P (sym counts.0) ((rose, counts.1), tt)
 opened-counts reads reads' writes writes' (input_stop.Refused fault) status same counts =
-    end-counts reads reads' writes writes' status same counts
+    counts-end reads reads' writes writes' status same counts
 opened-counts reads reads' writes writes' input_stop.OutOfMemory status same counts =
-    end-counts reads reads' writes writes' status same counts
+    counts-end reads reads' writes writes' status same counts

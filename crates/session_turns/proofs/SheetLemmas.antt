@@ -14,6 +14,7 @@ use Rattle.fixture_sheet.specs.Records.{content_taken}
 use Rattle.fixture_sheet.specs.Sheets.{SheetReading, sheet_reading_by, sheet_reading_from}
 use Rattle.fixture_sheet.specs.Sheets.{sheet_reading_of}
 use Rattle.league_core.proofs.plain.Parts.{none-left}
+use Rattle.run_ends.proofs.StandLemmas.{known}
 
 -- a sheet was read, and these contents come after it
 abbrev pub read_up_to : Sheet → Contents → SheetReading
@@ -83,11 +84,6 @@ elsewhere-from (line ∷ given) draft there rest sheet is =
     (sheet_reading_from (given ++ rest.lines) rest.ending)
     (λ next. elsewhere-from given next there rest sheet)
     (content_taken draft line.1) is
-
--- what comes after an option, where it is there
-abbrev pub known : {A : Type 0} → A → Option A → A
-known value None = value
-known value (Some other) = other
 
 -- a sheet that was read after these lines is read after them whatever follows
 pub sheet-elsewhere : (given : List (ℕ × List ℕ)) (before there : Contents) (sheet : Sheet)

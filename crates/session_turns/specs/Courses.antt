@@ -2,19 +2,17 @@
 -- first, and then line after line, each read in the season of the events before it. Each mode reads
 -- the same lines, but for the record `when`, which only `whatif` knows, and the record `proofs`,
 -- after which `resume` reads a saved text, and then such lines again.
-use Rattle.std.specs.Prelude.{ℕ, ◌==◌, Bool, true, false, List, [], ◌∷◌, ◌++◌, Option, None, Some}
+use Rattle.std.specs.Prelude.{ℕ, ◌==◌, Bool, true, false, List, [], ◌∷◌, Option, None, Some}
 use Rattle.std.specs.Prelude.{Result, Ok, Err, if◌then◌else◌}
 use Rattle.league_core.specs.declared.sheet.Sheet.{Sheet}
 use Rattle.league_core.specs.declared.season.Event.{Event}
 use Rattle.league_core.specs.game.Results.{Results}
 use Rattle.league_core.specs.game.Seasons.{epoch_of, season_after}
 use Rattle.league_core.specs.search.Trees.{Tree}
-use Rattle.port_core.specs.declared.line.ReadStop.{ReadStop}
 use Rattle.port_core.specs.Contents.{Contents}
 use Rattle.fixture_sheet.specs.declared.fault.SheetStop.{SheetStop}
 use Rattle.fixture_sheet.specs.Sheets.{SheetReading, sheet_reading_of}
 use Rattle.result_log.specs.declared.entry.Entry.{Entry}
-use Rattle.result_log.specs.declared.entry.Entry.TheVariants as entry
 use Rattle.result_log.specs.declared.fault.FeedFault.{FeedFault}
 use Rattle.result_log.specs.Feeds.{entry_in}
 use Rattle.answer_rows.specs.AskedQuestions.{questions_of}
@@ -24,10 +22,10 @@ use Rattle.pool_save.specs.declared.stop.SaveStop.TheVariants as save_stop
 use Rattle.pool_save.specs.SavedReadings.{SavedReading, SaveState, nothing_saved, saved_reading_of}
 use Rattle.command_words.specs.declared.command.Mode.{Mode}
 use Rattle.command_words.specs.declared.command.Mode.TheVariants.{WhatIf, Save, Resume}
-use Rattle.run_ends.specs.declared.run_end.Cause.TheVariants as cause
 use Rattle.run_ends.specs.declared.run_end.RunEnd.{RunEnd}
 use Rattle.run_ends.specs.declared.run_end.RunEnd.TheVariants.{Complete, Refused}
 use Rattle.run_ends.specs.InputEnds.{outcome_at_sheet, outcome_at_stop, save_fault}
+use Rattle.run_ends.specs.Courses.{CourseOf, FeedKind, course_ended, feed_course, nothing_after}
 use Rattle.session_turns.specs.Plays.{Played, played_after}
 
 -- ---- how an input ends
@@ -100,20 +98,10 @@ asks_at mode origin events content = asks_about mode origin events (about_in mod
 
 -- ---- courses
 
--- what was played at each ask that is answered, in their order, how the input ends, and what was
--- played there, if its end has something answered
-pub record Course : Type 0 where
-  pub asks : List Played
-  pub outcome : RunEnd
-  pub closing : Option Played
-
--- nothing is asked any more
-abbrev pub course_ended : RunEnd → Course
-course_ended outcome = record { asks = []; outcome = outcome; closing = None }
-
--- these asks at the front
-abbrev pub with_asks : List Played → Course → Course
-with_asks asks course = record course { asks = asks ++ course.asks }
+-- the course of a session: what was played at each ask that is answered, and at its end, if that
+-- has something answered
+abbrev pub Course : Type 0
+Course = CourseOf Played
 
 -- the input ends after these events: only in `save` that has something answered
 abbrev pub course_closed : Mode → Origin → List Event → Course
@@ -125,48 +113,27 @@ course_closed Save origin events =
     }
 course_closed mode origin events = course_ended Complete
 
--- where its lines end: it may end anywhere, but before a saved text that must come yet
-abbrev pub course_at_ending : Mode → Origin → Result ℕ ReadStop → List Event → Course
-course_at_ending mode origin (Ok number) events =
+-- where its lines end, at this number: it may end anywhere, but before a saved text that must come
+-- yet
+abbrev pub course_at_ending : Mode → Origin → ℕ → List Event → Course
+course_at_ending mode origin number events =
     if awaits_saved mode origin.saved then course_ended (Refused (save_fault number))
     else course_closed mode origin events
-course_at_ending mode origin (Err stop) events = course_ended (outcome_at_stop stop)
 
--- the course from a line on, after these events, by what the line is; `proofs` is the course after
--- a record `proofs`, and `onward` that of the lines after this one, each by the events before them;
--- the end comes of no line
-abbrev pub course_by : Mode → Origin → ℕ × List ℕ → (List Event → Course) → (List Event → Course)
-    → List Event → Result (Option Entry) FeedFault → Course
-course_by mode origin line proofs onward events (Ok None) = onward events
-course_by mode origin line proofs onward events (Ok (Some (entry.Change event))) =
-    onward (events ++ event ∷ [])
-course_by mode origin line proofs onward events (Ok (Some entry.Ask)) =
-    with_asks (asks_at mode origin events line.1) (onward events)
-course_by mode origin line proofs onward events (Ok (Some entry.Proofs)) = proofs events
-course_by mode origin line proofs onward events (Ok (Some entry.End)) =
-    course_closed mode origin events
-course_by mode origin line proofs onward events (Err fault) =
-    course_ended (Refused (record { number = line.0; cause = cause.Feed fault }))
-
--- the course of these lines and this ending, after these events: each line is read in the season
--- of the events before it; `after` is the course after a record `proofs`
-abbrev pub course_in : Mode → Origin → (List Event → Contents → Course) → List (ℕ × List ℕ)
-    → Result ℕ ReadStop → List Event → Course
-course_in mode origin after [] ending events = course_at_ending mode origin ending events
-course_in mode origin after (line ∷ lines) ending events =
-    course_by mode origin line (λ log. after log (record { lines = lines; ending = ending }))
-    (course_in mode origin after lines ending) events
-    (line_of mode origin (season_after origin.sheet events) (epoch_of events) line.1)
-
--- nothing comes after it
-abbrev pub nothing_after : List Event → Contents → Course
-nothing_after events rest = course_ended Complete
+-- how the lines from an origin make a course: each is read in the season of the events before it
+abbrev pub feed_kind : Mode → Origin → FeedKind Played
+feed_kind mode origin = record {
+  line = λ events. line_of mode origin (season_after origin.sheet events) (epoch_of events);
+  asks = asks_at mode origin;
+  closed = course_closed mode origin;
+  ending = course_at_ending mode origin;
+}
 
 -- the course after a saved text, by what it gave
 abbrev pub course_after_saved : Mode → Sheet → List Event → Contents
     → Result (List (Option Tree)) SaveStop → Course
 course_after_saved mode sheet events rest (Ok trees) =
-    course_in mode (saved_origin sheet events trees) nothing_after rest.lines rest.ending events
+    feed_course (feed_kind mode (saved_origin sheet events trees)) nothing_after events rest
 course_after_saved mode sheet events rest (Err stop) = course_ended (outcome_at_save stop)
 
 -- the course of a reading of a saved text
@@ -190,7 +157,7 @@ course_after_proofs mode origin events rest =
 -- the course of contents from an origin, after these events
 abbrev pub course_from : Mode → Origin → List Event → Contents → Course
 course_from mode origin events contents =
-    course_in mode origin (course_after_proofs mode origin) contents.lines contents.ending events
+    feed_course (feed_kind mode origin) (course_after_proofs mode origin) events contents
 
 -- the course after what came of the sheet
 abbrev pub course_after : Mode → Result Sheet SheetStop → Contents → Course

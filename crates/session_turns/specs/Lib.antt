@@ -3,6 +3,5 @@ pub mod Plays
 pub mod Courses
 pub mod Answers
 pub mod Texts
-pub mod Top
 pub mod LastReads
 pub mod inside

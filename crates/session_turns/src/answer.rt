@@ -50,6 +50,7 @@ fn questions_for(alloc: Global, mode: Mode, sheet: &Sheet) -> Result<Vec<Questio
         | Mode::WhatIf
         | Mode::Decide { .. }
         | Mode::Check { .. }
+        | Mode::Groups { .. }
         | Mode::Sample { .. } => Ok(Vec::new(alloc)),
     }
 }
@@ -97,6 +98,7 @@ fn work_out(alloc: Global, mode: Mode, pool: Pool) -> Result<Pool, OutOfMemory>
         | Mode::Save
         | Mode::Decide { .. }
         | Mode::Check { .. }
+        | Mode::Groups { .. }
         | Mode::Sample { .. } => Ok(pool),
     }
 }
@@ -123,7 +125,7 @@ fn put_worked<K: Sink>(
         Mode::Scores => put_numbers(alloc, pool, sink),
         Mode::WhatIf => put_outcomes(alloc, pool, about, sink),
         Mode::Decide { proofs } => put_decisions(alloc, proofs, pool, sink),
-        Mode::Save | Mode::Check { .. } | Mode::Sample { .. } => Ok(()),
+        Mode::Save | Mode::Check { .. } | Mode::Groups { .. } | Mode::Sample { .. } => Ok(()),
     }
 }
 

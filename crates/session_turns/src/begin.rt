@@ -6,7 +6,8 @@ ghost use Rattle.league_core.specs.game.Sheets.{IsWithinLimits};
 ghost use Rattle.port_core.specs.Contents.{start};
 ghost use Rattle.port_core.specs.Readers.{stream_of};
 ghost use Rattle.session_turns.specs.Courses.{awaits_saved, course_from, first_origin};
-ghost use Rattle.session_turns.specs.inside.Progress.{Path};
+ghost use Rattle.run_ends.specs.inside.Ways.{Path};
+ghost use Rattle.session_turns.specs.Texts.{session_kind};
 ghost use Rattle.session_turns.specs.inside.TurnReads.{HasComeTo, TurnStops};
 ghost use Rattle.session_turns.specs.inside.Turns.{IsLive, IsUnworked, TurnCounts, TurnGives};
 ghost use Rattle.session_turns.specs.inside.Turns.{TurnIsLive};
@@ -56,7 +57,8 @@ fn begin_feed<S: Source, K: Sink>(
 ) -> Step
     requires { IsWithinLimits sheet }
     ensures way { (input : Option (List ℕ)) (ended : Bool) (old : Option (List ℕ))
-        → Path mode input ended (stream_of reader.old (S.left source.old)) (S.ended source.old)
+        → Path (session_kind mode) input ended
+        (stream_of reader.old (S.left source.old)) (S.ended source.old)
         reader.old.position (course_from mode (first_origin sheet) []) old (K.holds sink.old)
         → TurnGives mode input ended (stream_of reader.new (S.left source.new))
         (S.ended source.new) reader.new.position (S.left source.new) old (K.holds sink.new)
@@ -88,7 +90,8 @@ fn resume_feed<S: Source, K: Sink>(
     requires live { IsLive (Resume false) pool }
     requires unworked { IsUnworked pool }
     ensures way { (proofs : Bool) (input : Option (List ℕ)) (ended : Bool) (old : Option (List ℕ))
-        → Path (Resume proofs) input ended (stream_of reader.old (S.left source.old))
+        → Path (session_kind (Resume proofs)) input ended
+        (stream_of reader.old (S.left source.old))
         (S.ended source.old) reader.old.position
         (course_from (Resume proofs) (first_origin pool.sheet) pool.log) old (K.holds sink.old)
         → TurnGives (Resume proofs) input ended (stream_of reader.new (S.left source.new))
@@ -121,6 +124,7 @@ fn awaits_saved(mode: Mode) -> bool
         | Mode::Save
         | Mode::Decide { .. }
         | Mode::Check { .. }
+        | Mode::Groups { .. }
         | Mode::Sample { .. } => false,
     }
 }

@@ -3,7 +3,11 @@
 ghost use Rattle.answer_rows.specs.inside.Outputs.{CountsPut};
 ghost use Rattle.command_words.specs.declared.command.Mode.TheVariants.{Save};
 ghost use Rattle.run_ends.specs.inside.Stops.{CountsEnd};
-ghost use Rattle.session_turns.specs.inside.Turns.{EndGives, IsLive, PutsClosing, closing_of};
+ghost use Rattle.run_ends.specs.declared.run_end.RunEnd.TheVariants.{Complete};
+ghost use Rattle.run_ends.specs.Texts.{IsLastText};
+ghost use Rattle.run_ends.specs.inside.RunTurns.{EndGives};
+ghost use Rattle.session_turns.specs.Texts.{IsSavedText};
+ghost use Rattle.session_turns.specs.inside.Turns.{IsLive, PutsClosing, closing_of};
 
 use answer_rows::OutputStop;
 use branch_pool::Pool;
@@ -17,7 +21,8 @@ use verdict_run::finish;
 /// Ends a run at the end of its input.
 pub fn close_session<K: Sink>(alloc: Global, mode: Mode, pool: Pool, sink: &mut K) -> Status
     requires live { IsLive mode pool }
-    ensures gives { EndGives (closing_of mode pool) (K.holds sink.old) (K.holds sink.new) result }
+    ensures gives { EndGives (IsLastText IsSavedText Complete (closing_of mode pool))
+        (K.holds sink.old) (K.holds sink.new) result }
     ensures counts { CountsEnd (K.faults sink.old) (K.faults sink.new) result }
 {
     match mode {
@@ -33,6 +38,7 @@ pub fn close_session<K: Sink>(alloc: Global, mode: Mode, pool: Pool, sink: &mut 
         | Mode::Resume { .. }
         | Mode::Decide { .. }
         | Mode::Check { .. }
+        | Mode::Groups { .. }
         | Mode::Sample { .. } => Status::Done,
     }
 }

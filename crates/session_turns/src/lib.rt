@@ -3,8 +3,8 @@
 //!
 //! It rests on the course of an input, which `specs/Courses.antt` reads line by line after its
 //! sheet, and on the answers of `specs/Answers.antt`: verdicts from scratch, the table, or the two
-//! scores; `specs/Texts.antt` says what the mode `save` writes at the end, and `specs/Top.antt`
-//! what a whole session writes.
+//! scores; `specs/Texts.antt` says what the mode `save` writes at the end. What a whole session of
+//! that kind writes stands in run_ends.
 #![tactic(auto)]
 
 mod answer;

@@ -6,7 +6,8 @@ ghost use Rattle.port_core.specs.Readers.{stream_of};
 ghost use Rattle.command_words.specs.declared.command.Mode.TheVariants.{Resume};
 ghost use Rattle.session_turns.specs.Courses.{course_from, course_from_saved, first_origin};
 ghost use Rattle.pool_save.specs.SavedReadings.{nothing_saved};
-ghost use Rattle.session_turns.specs.inside.Progress.{Path};
+ghost use Rattle.run_ends.specs.inside.Ways.{Path};
+ghost use Rattle.session_turns.specs.Texts.{session_kind};
 ghost use Rattle.session_turns.specs.inside.SavedStops.{EndsBefore, stop_of_save};
 ghost use Rattle.session_turns.specs.inside.TurnReads.{FeedOpens, HasComeTo, HasComeToSaved};
 ghost use Rattle.session_turns.specs.inside.TurnReads.{SavedOpens};
@@ -34,7 +35,8 @@ pub fn open_saved<S: Source>(
     requires unworked { IsUnworked pool }
     ensures way { (proofs : Bool) (input : Option (List ℕ)) (ended : Bool)
         (old now : Option (List ℕ))
-        → Path (Resume proofs) input ended (stream_of reader.old (S.left source.old))
+        → Path (session_kind (Resume proofs)) input ended
+        (stream_of reader.old (S.left source.old))
         (S.ended source.old) reader.old.position
         (course_from (Resume proofs) (first_origin pool.sheet) pool.log) old now
         → SavedGives (Resume proofs) input ended (stream_of reader.new (S.left source.new))
@@ -61,7 +63,8 @@ fn read_first_feed<S: Source>(
     requires unworked { IsUnworked pool }
     ensures way { (proofs : Bool) (input : Option (List ℕ)) (ended : Bool)
         (old now : Option (List ℕ))
-        → Path (Resume proofs) input ended (stream_of reader.old (S.left source.old))
+        → Path (session_kind (Resume proofs)) input ended
+        (stream_of reader.old (S.left source.old))
         (S.ended source.old) reader.old.position
         (course_from (Resume proofs) (first_origin pool.sheet) pool.log) old now
         → FeedGives (Resume proofs) input ended (stream_of reader.new (S.left source.new))
@@ -112,7 +115,8 @@ fn take_saved<S: Source>(
     requires unworked { IsUnworked pool }
     ensures way { (proofs : Bool) (input : Option (List ℕ)) (ended : Bool)
         (old now : Option (List ℕ))
-        → Path (Resume proofs) input ended (stream_of reader.old (S.left source.old))
+        → Path (session_kind (Resume proofs)) input ended
+        (stream_of reader.old (S.left source.old))
         (S.ended source.old) reader.old.position
         (course_from_saved (Resume proofs) pool.sheet pool.log nothing_saved) old now
         → SavedGives (Resume proofs) input ended (stream_of reader.new (S.left source.new))

@@ -8,14 +8,14 @@ use Rattle.depth_search.specs.declared.kind.CaseNode.{CaseNode}
 use Rattle.cup_sheet.specs.declared.question.GroupReason.{GroupReason}
 use Rattle.cup_sheet.specs.GroupQuestions.{GroupQuestion}
 use Rattle.cup_sheet.specs.KeyBounds.{far_key}
-use Rattle.group_search.specs.declared.question.KindQuestion.{KindQuestion}
+use Rattle.cup_groups.specs.declared.question.KindQuestion.{KindQuestion}
 use Rattle.group_search.specs.inside.GroupTasks.{IsGroupSpentOn}
-use Rattle.group_search.specs.inside.KindQuestions.{group_question_of}
+use Rattle.cup_groups.specs.inside.KindQuestions.{group_question_of}
 use Rattle.turning_keys.specs.declared.halve.SpentOn.{SpentOn}
 use Rattle.turning_keys.specs.inside.KeyEndings.{IsSpentKey}
 use Rattle.turning_keys.specs.inside.TurningQuestions.{halving_question}
 use Rattle.turning_keys.specs.inside.TurningSearches.{IsCandidateAt, IsSpentHalfway}
-use Rattle.turning_keys.proofs.ReachedLemmas.{outermost_exists}
+use Rattle.turning_keys.proofs.ReachedLemmas.{nearest_exists}
 use Rattle.turning_keys.proofs.TurningKeyLemmas.{turning_key_exists}
 
 module _ (sheet : Sheet) (season : Results) (claim : Claim) (club : ℕ)
@@ -25,7 +25,7 @@ module _ (sheet : Sheet) (season : Results) (claim : Claim) (club : ℕ)
       → (spent : SpentOn) → IsSpentHalfway sheet season claim club spent
       → IsSpentKey sheet season claim club spent.question spent.nodes.items
   spent_on_the_way example candidate spent halfway =
-      let some = outermost_exists sheet season club below claim example candidate in
+      let some = nearest_exists sheet season club below claim example candidate in
       record {
         key = some.0;
         turning = inl some.1;

@@ -16,8 +16,8 @@ use Rattle.league_core.specs.game.HeadToHead.{greater_first}
 use Rattle.league_core.specs.search.Keys.{AreAtMost}
 use Rattle.league_core.specs.search.PointRanges.{Range}
 use Rattle.cup_sheet.specs.KeyBounds.{far_part, IsBeyond, IsInNearHalf}
-use Rattle.turning_keys.specs.inside.TurningSearches.{outer_end}
-use Rattle.turning_keys.proofs.KeyBoundLemmas.{AreWithinFar}
+use Rattle.turning_keys.specs.inside.TurningSearches.{far_end}
+use Rattle.turning_keys.specs.inside.TurningLaws.{AreWithinFar}
 
 -- ---- two numbers
 
@@ -249,25 +249,25 @@ own_part_within [] later part range within = within
 own_part_within (first ∷ before) later part range within =
     own_part_within before later part range within
 
-in_outer_half : (claim : Claim) (range : Range) (part : ℤ)
+in_far_half : (claim : Claim) (range : Range) (part : ℤ)
     → (range.least ≤ℤ part) × (part ≤ℤ range.greatest)
-    → IsInNearHalf claim (outer_end claim range) part
-in_outer_half Outside range part within = within.1
-in_outer_half Inside range part within = within.0
+    → IsInNearHalf claim (far_end claim range) part
+in_far_half Outside range part within = within.1
+in_far_half Inside range part within = within.0
 
 -- a key that is no farther out than one with a number beyond all in a place is no farther out than
--- the one with the outer end of its own part's range there
-pub outer_no_farther : (claim : Claim) (before parts : List ℤ) (count : ℕ) (range : Range)
+-- the one with the far end of its own part's range there
+pub far_end_no_farther : (claim : Claim) (before parts : List ℤ) (count : ℕ) (range : Range)
     → length parts ≡ length before + suc count → AreWithinFar parts
     → IsPartWithin before parts range
     → IsNoFartherIn claim parts (before ++ replicate (suc count) (far_part claim))
     → IsNoFartherIn claim parts
-    (before ++ outer_end claim range ∷ replicate count (far_part claim))
-outer_no_farther claim before [] count range sized near within all = absurd within
-outer_no_farther claim [] (part ∷ parts) count range sized near within all =
-    elim (half_cases claim (outer_end claim range) part (in_outer_half claim range part within))
+    (before ++ far_end claim range ∷ replicate count (far_part claim))
+far_end_no_farther claim before [] count range sized near within all = absurd within
+far_end_no_farther claim [] (part ∷ parts) count range sized near within all =
+    elim (half_cases claim (far_end claim range) part (in_far_half claim range part within))
     as (λ _. IsNoFartherIn claim (part ∷ parts)
-    (outer_end claim range ∷ replicate count (far_part claim))) [
+    (far_end claim range ∷ replicate count (far_part claim))) [
       | inl inner ↦ inl inner
       | inr is ↦ inr (
         is,
@@ -275,12 +275,12 @@ outer_no_farther claim [] (part ∷ parts) count range sized near within all =
             near.1,
       )
     ]
-outer_no_farther claim (first ∷ before) (part ∷ parts) count range sized near within all =
+far_end_no_farther claim (first ∷ before) (part ∷ parts) count range sized near within all =
     elim all as (λ _. IsNoFartherIn claim (part ∷ parts)
-    (first ∷ (before ++ outer_end claim range ∷ replicate count (far_part claim)))) [
+    (first ∷ (before ++ far_end claim range ∷ replicate count (far_part claim)))) [
       | inl inner ↦ inl inner
       | inr both ↦ inr (
         both.0,
-        outer_no_farther claim before parts count range (omega arith) near.1 within both.1,
+        far_end_no_farther claim before parts count range (omega arith) near.1 within both.1,
       )
     ]

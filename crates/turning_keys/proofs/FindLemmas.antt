@@ -14,23 +14,23 @@ use Rattle.league_core.specs.search.Keys.{key_ranges}
 use Rattle.league_core.specs.search.PointRanges.{Range}
 use Rattle.club_keys.specs.inside.KeyEnds.{key_parts}
 use Rattle.cup_sheet.specs.CupLimits.{direct_places}
-use Rattle.cup_sheet.specs.KeyBounds.{far_key, far_part, CanBeCandidateWith, IsOutermostKey}
+use Rattle.cup_sheet.specs.KeyBounds.{far_key, far_part, CanBeCandidateWith, IsNearestKey}
 use Rattle.turning_keys.specs.declared.halve.Reached.{Reached}
-use Rattle.turning_keys.specs.inside.TurningSearches.{outer_end, AreKnownParts, IsKnownTo}
+use Rattle.turning_keys.specs.inside.TurningSearches.{far_end, AreKnownParts, IsKnownTo}
 use Rattle.turning_keys.specs.inside.TurningSearches.{IsReachedWithin, IsReachedTo, IsHalving}
 use Rattle.turning_keys.specs.inside.TurningSearches.{IsRefutedWithin}
 use Rattle.turning_keys.specs.inside.KeyEndings.{IsExampleAt}
 use Rattle.turning_keys.proofs.FartherLemmas.{three_ways, from_parts, far_no_farther}
-use Rattle.turning_keys.proofs.ReachedLemmas.{outermost_exists, own_key, reached_key}
+use Rattle.turning_keys.proofs.ReachedLemmas.{nearest_exists, own_key, reached_key}
 use Rattle.turning_keys.proofs.ReachedLemmas.{reached_example}
 use Rattle.turning_keys.proofs.PartLemmas.{halved_within}
 use Rattle.turning_keys.proofs.WholePartLemmas.{whole_left, whole_reached, part_known, all_known}
 
--- the outer end of a range with one number
-outer_is_least : (claim : Claim) (range : Range) → range.least ≤ℤ range.greatest
-    → range.greatest ≤ℤ range.least → outer_end claim range ≡ range.least
-outer_is_least Outside range in_order one = omega (arith, ints, in_order, one)
-outer_is_least Inside range in_order one = refl
+-- the far end of a range with one number
+far_end_is_least : (claim : Claim) (range : Range) → range.least ≤ℤ range.greatest
+    → range.greatest ≤ℤ range.least → far_end claim range ≡ range.least
+far_end_is_least Outside range in_order one = omega (arith, ints, in_order, one)
+far_end_is_least Inside range in_order one = refl
 
 both_ends : (least part greatest : ℤ) → (least ≤ℤ part) × (part ≤ℤ greatest) → least ≤ℤ greatest
 both_ends least part greatest within = omega (arith, ints, within.0, within.1)
@@ -69,7 +69,7 @@ module _ (sheet : Sheet) (season : Results) (claim : Claim) (club : ℕ)
       → IsHalving sheet season claim club reached range
   whole_halving reached range to room there =
       let key = key_parts reached.key in
-      let some = outermost_exists sheet season club below claim reached.example
+      let some = nearest_exists sheet season club below claim reached.example
       to.near.candidate in
       let left = whole_left sheet season claim club limits results some.0 key reached.known range
       some.1 (to.known some.0 some.1) room there in
@@ -79,9 +79,9 @@ module _ (sheet : Sheet) (season : Results) (claim : Claim) (club : ℕ)
             both_ends range.least left.part range.greatest
             (halved_within claim left.part left.whole range (left.least, left.greatest)
             left.halved);
-        left = λ turning outermost.
+        left = λ turning nearest.
             whole_left sheet season claim club limits results turning key reached.known range
-            outermost (to.known turning outermost) room there;
+            nearest (to.known turning nearest) room there;
         near =
             whole_reached sheet season claim club limits results some.0 key reached.known range
             reached.example some.1 left there to.near;
@@ -95,30 +95,30 @@ module _ (sheet : Sheet) (season : Results) (claim : Claim) (club : ℕ)
       × IsReachedWithin sheet season claim club
       (slice_set (key_parts reached.key) reached.known range.least) reached.example
   one_left reached range halving one = (
-    λ turning outermost.
+    λ turning nearest.
         part_known sheet season claim club limits results turning (key_parts reached.key)
-        reached.known range (halving.left turning outermost) one,
+        reached.known range (halving.left turning nearest) one,
     subst (λ (end : ℤ). IsReachedWithin sheet season claim club
         (slice_set (key_parts reached.key) reached.known end) reached.example)
-        (outer_is_least claim range halving.in_order one) halving.near,
+        (far_end_is_least claim range halving.in_order one) halving.near,
   )
 
   -- where all parts are known
   pub key_found : (reached : Reached) → IsReachedTo sheet season claim club reached
       → reached.known ≡ 7
-      → IsOutermostKey direct_places sheet season claim club (key_parts reached.key)
+      → IsNearestKey direct_places sheet season claim club (key_parts reached.key)
   key_found reached to all =
-      let some = outermost_exists sheet season club below claim reached.example
+      let some = nearest_exists sheet season club below claim reached.example
       to.near.candidate in
-      subst (λ (it : List ℤ). IsOutermostKey direct_places sheet season claim club it)
+      subst (λ (it : List ℤ). IsNearestKey direct_places sheet season claim club it)
       (all_known sheet season claim club limits results some.0 (key_parts reached.key) some.1
       (subst (λ (n : ℕ). AreKnownParts claim some.0 n (key_parts reached.key)) all
       (to.known some.0 some.1))) some.1
 
   -- where none is known yet
   pub none_known : (key : List ℤ) → key ≡ far_key claim → IsKnownTo sheet season claim club 0 key
-  none_known key far turning outermost =
-      let own = own_key sheet season club limits results turning outermost.0 in
+  none_known key far turning nearest =
+      let own = own_key sheet season club limits results turning nearest.0 in
       record {
         before = [];
         later = turning;

@@ -1,8 +1,7 @@
 -- Each part of a club's key at a finish is far within a hundred thousand.
-use Rattle.std.proofs.Common.{◌≡◌, ℕ, ◌*◌, ◌≤◌, ℤ, pos, ◌-ℤ◌, Bool, true, false, ◌&&◌}
-use Rattle.std.proofs.Common.{nat_le, cond, List, [], ◌∷◌, length, map, slice_index, Option, Some}
-use Rattle.std.proofs.Common.{None}
-use Rattle.std.proofs.Common.{zero, suc, ap, ◌∙◌, arith}
+use Rattle.std.proofs.Common.{◌≡◌, ℕ, ◌*◌, ◌≤◌, ℤ, pos, ◌-ℤ◌, Bool, true, false, ◌&&◌, nat_le, cond}
+use Rattle.std.proofs.Common.{List, [], ◌∷◌, length, map, slice_index, Option, Some, None, zero}
+use Rattle.std.proofs.Common.{suc, ap, ◌∙◌, arith}
 use Rattle.std.specs.List.{list_all}
 use Rattle.std.proofs.lemmas.Bool.{false≢true, and_parts, and_from, leb-true}
 use Rattle.std.proofs.lemmas.Int.{ints}
@@ -23,11 +22,7 @@ use Rattle.league_core.proofs.FinishLemmas.{may_end_is_score}
 use Rattle.league_core.proofs.PointsLemmas.{deduction-le}
 use Rattle.league_core.proofs.WorthLemmas.{points_near, difference_near, goals_near}
 use Rattle.league_core.proofs.WorthLemmas.{away_goals_near, wins_near, away_wins_near}
-
--- each part is at most so far from zero
-abbrev pub AreWithinFar : List ℤ → Type 0
-AreWithinFar [] = Unit {0}
-AreWithinFar (part ∷ parts) = IsNearZero 100000 part × AreWithinFar parts
+use Rattle.turning_keys.specs.inside.TurningLaws.{AreWithinFar}
 
 -- ---- scores
 
@@ -57,7 +52,7 @@ finish_scores limit (played ∷ season) (Some score ∷ finish) low all ends =
 
 -- ---- sums
 
-zero_near : (bound : ℕ) → IsNearZero bound (pos 0)
+pub zero_near : (bound : ℕ) → IsNearZero bound (pos 0)
 zero_near bound = (omega (arith, ints), omega (arith, ints))
 
 either_near : (b : Bool) (x y : ℤ) → IsNearZero 99 x → IsNearZero 99 y → IsNearZero 99 (cond b x y)
@@ -65,12 +60,13 @@ either_near true x y near other = near
 either_near false x y near other = other
 
 -- no match is worth more than 99 either way
-abbrev IsWorthNear : Worth → Type 0
+abbrev pub IsWorthNear : Worth → Type 0
 IsWorthNear worth =
     (scored conceded : ℕ) (away : Bool) → scored ≤ 99 → conceded ≤ 99
     → IsNearZero 99 (worth scored conceded away)
 
-worth_to-near : (worth : Worth) → IsWorthNear worth → (club : ℕ) (match : Fixture) (score : Score)
+pub worth_to-near : (worth : Worth) → IsWorthNear worth → (club : ℕ) (match : Fixture)
+    (score : Score)
     → is_score score ≡ true → IsNearZero 99 (worth_to worth club match score)
 worth_to-near worth near club match score is =
     let few = goals_within score is in
@@ -107,18 +103,18 @@ rank_within (first ∷ clubs) (suc club) all =
 
 -- ---- keys
 
-far_near : (bound : ℕ) (number : ℤ) → bound ≤ 100000 → IsNearZero bound number
+pub far_near : (bound : ℕ) (number : ℤ) → bound ≤ 100000 → IsNearZero bound number
     → IsNearZero 100000 number
 far_near bound number low near = (omega (arith, ints, near.0), omega (arith, ints, near.1))
 
-less_near : (number : ℤ) (off : ℕ) → IsNearZero 59400 number → off ≤ 99
+pub less_near : (number : ℤ) (off : ℕ) → IsNearZero 59400 number → off ≤ 99
     → IsNearZero 100000 (number -ℤ pos off)
 less_near number off near few = (omega (arith, ints, near.0), omega (arith, ints, near.1))
 
-rank_near : (rank : ℕ) → rank ≤ 999 → IsNearZero 100000 (pos 1000 -ℤ pos rank)
+pub rank_near : (rank : ℕ) → rank ≤ 999 → IsNearZero 100000 (pos 1000 -ℤ pos rank)
 rank_near rank few = (omega (arith, ints), omega (arith, ints))
 
-wider : (matches : ℕ) (number : ℤ) → matches ≤ 600 → IsNearZero (99 * matches) number
+pub wider : (matches : ℕ) (number : ℤ) → matches ≤ 600 → IsNearZero (99 * matches) number
     → IsNearZero 59400 number
 wider matches number few near = (omega (arith, ints, near.0), omega (arith, ints, near.1))
 

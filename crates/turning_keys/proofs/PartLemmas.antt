@@ -14,13 +14,13 @@ use Rattle.league_core.specs.search.Keys.{key_of, key_ranges}
 use Rattle.league_core.specs.search.PointRanges.{Range}
 use Rattle.tree_arena.specs.declared.example.Example.{Example}
 use Rattle.cup_sheet.specs.CupLimits.{direct_places}
-use Rattle.cup_sheet.specs.KeyBounds.{far_part, IsBeyond, IsOutermostKey, IsMidpoint}
+use Rattle.cup_sheet.specs.KeyBounds.{far_part, IsBeyond, IsNearestKey, IsMidpoint}
 use Rattle.cup_sheet.specs.KeyBounds.{IsInNearHalf, near_half, far_half, IsHalvedTo, not_halved}
 use Rattle.cup_sheet.specs.KeyBounds.{to_near_half, to_far_half, IsHalfwayKey}
 use Rattle.turning_keys.specs.inside.TurningSearches.{IsPartLeft}
 use Rattle.turning_keys.specs.inside.TurningSearches.{IsReachedWithin, IsRefutedWithin}
-use Rattle.turning_keys.proofs.KeyBoundLemmas.{AreWithinFar}
-use Rattle.turning_keys.proofs.OutermostLemmas.{beyond_along}
+use Rattle.turning_keys.specs.inside.TurningLaws.{AreWithinFar}
+use Rattle.turning_keys.proofs.NearestKeyLemmas.{beyond_along}
 use Rattle.turning_keys.proofs.FartherLemmas.{to_parts, from_parts, near_if_within}
 use Rattle.turning_keys.proofs.FartherLemmas.{within_if_near}
 use Rattle.turning_keys.proofs.FartherLemmas.{three_ways}
@@ -102,25 +102,25 @@ module _ (sheet : Sheet) (season : Results) (claim : Claim) (club : ℕ)
   abbrev pub Left : List ℤ → ℕ → List ℤ → Range → Type 0
   Left turning place key range = IsPartLeft sheet season claim club turning place key range
 
-  own_outermost : (turning : List ℤ)
-      → IsOutermostKey direct_places sheet season claim club turning
+  own_nearest : (turning : List ℤ)
+      → IsNearestKey direct_places sheet season claim club turning
       → IsOwnKey sheet season club turning
-  own_outermost turning outermost =
-      own_key sheet season club limits results turning outermost.0
+  own_nearest turning nearest =
+      own_key sheet season club limits results turning nearest.0
 
   -- ---- a step
 
   -- an example with a key no farther out than the one with a middle there
   pub near_left : (turning key : List ℤ) (place : ℕ) (range : Range) (middle : ℤ)
-      (example : Example) → IsOutermostKey direct_places sheet season claim club turning
+      (example : Example) → IsNearestKey direct_places sheet season claim club turning
       → Left turning place key range → range.least <ℤ range.greatest
       → IsMidpoint claim range middle
       → IsReachedWithin sheet season claim club (slice_set key place middle) example
       → Left turning place key (near_half claim range middle)
-  near_left turning key place range middle example outermost left several is reached =
+  near_left turning key place range middle example nearest left several is reached =
       let own = key_of sheet example.finish club in
       let beyond = beyond_along claim turning own (slice_set key place middle)
-      (outermost.1 own (candidate_can sheet season club example reached.candidate))
+      (nearest.1 own (candidate_can sheet season club example reached.candidate))
       reached.near in
       let asked = set_part claim left.before left.later key place middle left.counted left.known in
       let far = far_parts claim left.later in
@@ -145,19 +145,19 @@ module _ (sheet : Sheet) (season : Results) (claim : Claim) (club : ℕ)
 
   -- or no such example
   pub far_left : (turning key : List ℤ) (place : ℕ) (range : Range) (middle : ℤ)
-      → IsOutermostKey direct_places sheet season claim club turning
+      → IsNearestKey direct_places sheet season claim club turning
       → Left turning place key range → range.least <ℤ range.greatest
       → IsMidpoint claim range middle
       → IsRefutedWithin sheet season claim club (slice_set key place middle)
       → Left turning place key (far_half claim range middle)
-  far_left turning key place range middle outermost left several is refuted =
+  far_left turning key place range middle nearest left several is refuted =
       let asked = set_part claim left.before left.later key place middle left.counted left.known in
       let far = far_parts claim left.later in
-      let own = own_outermost turning outermost in
+      let own = own_nearest turning nearest in
       let near = later_near left.before left.later left.part
       (subst AreWithinFar left.parts own.near) in
       let outside : IsInNearHalf claim middle left.part → ⊥ =
-      λ half. refuted turning outermost.0
+      λ half. refuted turning nearest.0
       (subst (λ (it : List ℤ). IsBeyond claim turning it) (sym asked)
       (subst (λ (it : List ℤ). IsBeyond claim it (left.before ++ middle ∷ far)) (sym left.parts)
       (from_parts claim (left.before ++ left.part ∷ left.later) (left.before ++ middle ∷ far)

@@ -1,6 +1,6 @@
 -- What an example shows of a club's keys as its group's candidate, and what a refutation does.
-use Rattle.std.proofs.Common.{◌≡◌, ℕ, ◌<◌, ℤ, Bool, true, false, not, ◌==◌, List, []}
-use Rattle.std.proofs.Common.{length, map, refl, subst, ap, ◌∙◌, inl, inr}
+use Rattle.std.proofs.Common.{◌≡◌, ℕ, ◌<◌, ℤ, Bool, true, false, not, ◌==◌, List, [], length, map}
+use Rattle.std.proofs.Common.{refl, subst, ap, ◌∙◌, inl, inr}
 use Rattle.std.proofs.lemmas.Bool.{false≢true, and_parts, and_from, eq-eqb, eqb-true}
 use Rattle.league_core.specs.declared.sheet.Sheet.{Sheet}
 use Rattle.league_core.specs.declared.question.Claim.{Claim}
@@ -19,15 +19,16 @@ use Rattle.depth_search.specs.declared.kind.CaseNode.{CaseNode}
 use Rattle.cup_sheet.specs.declared.question.GroupReason.{GroupReason}
 use Rattle.cup_sheet.specs.CupLimits.{direct_places}
 use Rattle.cup_sheet.specs.GroupQuestions.{is_key_on_side}
-use Rattle.cup_sheet.specs.KeyBounds.{halving_kind, CanBeCandidateWith, IsBeyond}
-use Rattle.cup_sheet.specs.KeyBounds.{IsOutermostKey, IsTurningKey}
+use Rattle.cup_sheet.specs.KeyBounds.{halving_kind, CanBeCandidateWith, IsBeyond, IsNearestKey}
+use Rattle.cup_sheet.specs.KeyBounds.{IsTurningKey}
 use Rattle.group_search.specs.inside.GroupLooks.{IsGroupExampleOf}
 use Rattle.group_search.specs.inside.GroupTasks.{IsGroupRefutedBy}
 use Rattle.cup_laws.proofs.GroupTruthLemmas.{group_refuted}
-use Rattle.turning_keys.specs.inside.TurningQuestions.{halving_question, outer_question}
+use Rattle.turning_keys.specs.inside.TurningQuestions.{halving_question, nearer_question}
 use Rattle.turning_keys.specs.inside.TurningSearches.{IsCandidateAt, IsReachedWithin}
 use Rattle.turning_keys.specs.inside.TurningSearches.{IsRefutedWithin}
-use Rattle.turning_keys.proofs.KeyBoundLemmas.{AreWithinFar, key_within}
+use Rattle.turning_keys.specs.inside.TurningLaws.{AreWithinFar}
+use Rattle.turning_keys.proofs.KeyBoundLemmas.{key_within}
 use Rattle.turning_keys.proofs.TurningKeyLemmas.{turning_key_exists}
 
 module _ (sheet : Sheet) (season : Results) (club : ℕ) where
@@ -183,17 +184,17 @@ module _ (sheet : Sheet) (season : Results) (club : ℕ) where
   own_key limits results key can =
       subst IsOwnKey can.3 (key_at_finish limits results can.0 can.2.is_finish)
 
-  -- ---- the outermost key
+  -- ---- the nearest key
 
   -- there is one if some example shows the club as the candidate
-  pub outermost_exists : club < length sheet.clubs → (claim : Claim) (example : Example)
+  pub nearest_exists : club < length sheet.clubs → (claim : Claim) (example : Example)
       → IsCandidateAt sheet season club example
-      → (turning : List ℤ) × IsOutermostKey direct_places sheet season claim club turning
-  outermost_exists below claim example candidate =
+      → (turning : List ℤ) × IsNearestKey direct_places sheet season claim club turning
+  nearest_exists below claim example candidate =
       let some = turning_key_exists sheet season club below claim in
       elim some.1 as (λ _. (turning : List ℤ)
-      × IsOutermostKey direct_places sheet season claim club turning) [
-        | inl outermost ↦ (some.0, outermost)
+      × IsNearestKey direct_places sheet season claim club turning) [
+        | inl nearest ↦ (some.0, nearest)
         | inr none ↦ absurd (none.0 (key_of sheet example.finish club)
             (candidate_can example candidate))
       ]
@@ -203,11 +204,11 @@ module _ (sheet : Sheet) (season : Results) (club : ℕ) where
   on_both_sides true is other = false≢true other
   on_both_sides false is other = false≢true is
 
-  outer_candidate : (claim : Claim) (bound : List ℤ) (example : Example)
-      → IsGroupExampleOf sheet season (outer_question claim club bound) example
+  nearer_candidate : (claim : Claim) (bound : List ℤ) (example : Example)
+      → IsGroupExampleOf sheet season (nearer_question claim club bound) example
       → IsCandidateAt sheet season club example
       × (IsBeyond claim bound (key_of sheet example.finish club) → ⊥)
-  outer_candidate Outside bound example is =
+  nearer_candidate Outside bound example is =
       let parts = and_parts (place_of sheet example.finish example.lots club == 2)
       (not (is_key_from bound (key_of sheet example.finish club))) is.holds in (
         record {
@@ -217,7 +218,7 @@ module _ (sheet : Sheet) (season : Results) (club : ℕ) where
         },
         λ beyond. on_both_sides _ beyond parts.1,
       )
-  outer_candidate Inside bound example is =
+  nearer_candidate Inside bound example is =
       let parts = and_parts (place_of sheet example.finish example.lots club == 2)
       (not (is_key_from (key_of sheet example.finish club) bound)) is.holds in (
         record {
@@ -230,23 +231,23 @@ module _ (sheet : Sheet) (season : Results) (club : ℕ) where
 
   pub none_before : (claim : Claim) (key : List ℤ) (example : Example)
       → IsTurningKey direct_places sheet season claim club key
-      → IsGroupExampleOf sheet season (outer_question claim club key) example → ⊥
+      → IsGroupExampleOf sheet season (nearer_question claim club key) example → ⊥
   none_before claim key example turning is =
-      let parts = outer_candidate claim key example is in
+      let parts = nearer_candidate claim key example is in
       let can = candidate_can example parts.0 in
       elim turning as (λ _. ⊥) [
-        | inl outermost ↦ parts.1 (outermost.1 (key_of sheet example.finish club) can)
+        | inl nearest ↦ parts.1 (nearest.1 (key_of sheet example.finish club) can)
         | inr none ↦ none.0 (key_of sheet example.finish club) can
       ]
 
-  -- an example with a key no farther out than the outermost key has that key
+  -- an example with a key no farther out than the nearest key has that key
   pub reached_key : (claim : Claim) (key : List ℤ) (example : Example)
-      → IsOutermostKey direct_places sheet season claim club key
+      → IsNearestKey direct_places sheet season claim club key
       → IsReachedWithin sheet season claim club key example → key_of sheet example.finish club ≡ key
-  reached_key Outside key example outermost reached =
+  reached_key Outside key example nearest reached =
       one_if_both (key_of sheet example.finish club) key reached.near
-      (outermost.1 (key_of sheet example.finish club) (candidate_can example reached.candidate))
-  reached_key Inside key example outermost reached =
+      (nearest.1 (key_of sheet example.finish club) (candidate_can example reached.candidate))
+  reached_key Inside key example nearest reached =
       one_if_both (key_of sheet example.finish club) key
-      (outermost.1 (key_of sheet example.finish club) (candidate_can example reached.candidate))
+      (nearest.1 (key_of sheet example.finish club) (candidate_can example reached.candidate))
       reached.near

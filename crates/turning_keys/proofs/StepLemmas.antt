@@ -13,7 +13,7 @@ use Rattle.tree_arena.specs.declared.example.Example.{Example}
 use Rattle.cup_sheet.specs.KeyBounds.{IsMidpoint, near_half, far_half, IsHalfwayKey}
 use Rattle.turning_keys.specs.declared.halve.Reached.{Reached}
 use Rattle.turning_keys.specs.inside.TurningSearches.{IsHalving, IsReachedWithin, IsRefutedWithin}
-use Rattle.turning_keys.specs.inside.TurningSearches.{outer_end, numbers_past, IsHalfwayTo}
+use Rattle.turning_keys.specs.inside.TurningSearches.{far_end, numbers_past, IsHalfwayTo}
 use Rattle.turning_keys.proofs.PartLemmas.{near_left, far_left, halfway_key}
 
 abs_less : (a b : ℤ) → pos 0 ≤ℤ a → a <ℤ b → nat_abs a < nat_abs b
@@ -61,14 +61,14 @@ far_fewer Inside range middle several is =
     }
 
 near_end : (claim : Claim) (range : Range) (middle : ℤ)
-    → outer_end claim (near_half claim range middle) ≡ middle
+    → far_end claim (near_half claim range middle) ≡ middle
 near_end Outside range middle = refl
 near_end Inside range middle = refl
 
-far_end : (claim : Claim) (range : Range) (middle : ℤ)
-    → outer_end claim (far_half claim range middle) ≡ outer_end claim range
-far_end Outside range middle = refl
-far_end Inside range middle = refl
+far_end-far_half : (claim : Claim) (range : Range) (middle : ℤ)
+    → far_end claim (far_half claim range middle) ≡ far_end claim range
+far_end-far_half Outside range middle = refl
+far_end-far_half Inside range middle = refl
 
 module _ (sheet : Sheet) (season : Results) (claim : Claim) (club : ℕ)
     (limits : IsWithinLimits sheet) (results : are_results season ≡ true) where
@@ -91,9 +91,9 @@ module _ (sheet : Sheet) (season : Results) (claim : Claim) (club : ℕ)
         record {
           room = halving.room;
           in_order = less.in_order;
-          left = λ turning outermost.
+          left = λ turning nearest.
               near_left sheet season claim club limits results turning (key_parts old.key)
-              old.known range middle example outermost (halving.left turning outermost) several is
+              old.known range middle example nearest (halving.left turning nearest) several is
               near;
           near =
               subst (λ (end : ℤ). IsReachedWithin sheet season claim club
@@ -118,16 +118,16 @@ module _ (sheet : Sheet) (season : Results) (claim : Claim) (club : ℕ)
         record {
           room = halving.room;
           in_order = less.in_order;
-          left = λ turning outermost.
+          left = λ turning nearest.
               far_left sheet season claim club limits results turning (key_parts old.key)
-              old.known range middle outermost (halving.left turning outermost) several is
+              old.known range middle nearest (halving.left turning nearest) several is
               (subst (λ (it : List ℤ). IsRefutedWithin sheet season claim club it) at refuted);
           near =
               subst (λ (end : ℤ). IsReachedWithin sheet season claim club
               (slice_set (key_parts old.key) old.known end) example)
-              (sym (far_end claim range middle))
+              (sym (far_end-far_half claim range middle))
               (subst (λ (it : Example). IsReachedWithin sheet season claim club
-              (slice_set (key_parts old.key) old.known (outer_end claim range)) it)
+              (slice_set (key_parts old.key) old.known (far_end claim range)) it)
               (sym same) halving.near);
         },
         less.fewer,
@@ -139,7 +139,7 @@ module _ (sheet : Sheet) (season : Results) (claim : Claim) (club : ℕ)
       → Halving old range → range.least <ℤ range.greatest → IsMidpoint claim range middle
       → asked ≡ slice_set (key_parts old.key) old.known middle
       → IsHalfwayTo sheet season claim club asked
-  middle_on_the_way old range middle asked halving several is at turning outermost =
+  middle_on_the_way old range middle asked halving several is at turning nearest =
       subst (λ (it : List ℤ). IsHalfwayKey sheet season claim club turning it) (sym at)
       (halfway_key sheet season claim club limits results turning (key_parts old.key) old.known
-      range middle (halving.left turning outermost) several is)
+      range middle (halving.left turning nearest) several is)

@@ -23,7 +23,7 @@ use Rattle.cup_sheet.specs.KeyBounds.{far_key, CanBeCandidateWith, IsBeyond, IsT
 use Rattle.group_search.specs.inside.SecondLots.{second_lots}
 use Rattle.group_search.proofs.SecondLotsLemmas.{HasSecondLots, second_by_some}
 use Rattle.group_search.proofs.SecondLotsLemmas.{second_lots-are_lots}
-use Rattle.turning_keys.proofs.OutermostLemmas.{outermost_or_none}
+use Rattle.turning_keys.proofs.NearestKeyLemmas.{nearest_or_none}
 
 -- an example of a question about a candidate has its place and its key
 pub candidate_parts : (sheet : Sheet) (season : Results) (club : ℕ) (key : List ℤ)
@@ -156,7 +156,7 @@ module _ (sheet : Sheet) (season : Results) (club : ℕ) (below : club < length 
   pub turning_key_exists : (claim : Claim)
       → (key : List ℤ) × IsTurningKey direct_places sheet season claim club key
   turning_key_exists claim =
-      elim (outermost_or_none EndsSecond key_with claim ends_second_or_not
+      elim (nearest_or_none EndsSecond key_with claim ends_second_or_not
       (finishes_of sheet.goal_limit season.scores))
       as (λ _. (key : List ℤ) × IsTurningKey direct_places sheet season claim club key) [
         | inl best ↦ (

@@ -12,13 +12,13 @@ use Rattle.league_core.specs.search.Keys.{key_of, key_ranges}
 use Rattle.league_core.specs.search.PointRanges.{Range}
 use Rattle.tree_arena.specs.declared.example.Example.{Example}
 use Rattle.cup_sheet.specs.CupLimits.{direct_places}
-use Rattle.cup_sheet.specs.KeyBounds.{far_part, IsBeyond, IsOutermostKey}
+use Rattle.cup_sheet.specs.KeyBounds.{far_part, IsBeyond, IsNearestKey}
 use Rattle.cup_sheet.specs.KeyBounds.{not_halved}
-use Rattle.turning_keys.specs.inside.TurningSearches.{outer_end, AreKnownParts, IsPartLeft}
+use Rattle.turning_keys.specs.inside.TurningSearches.{far_end, AreKnownParts, IsPartLeft}
 use Rattle.turning_keys.specs.inside.TurningSearches.{IsReachedWithin}
 use Rattle.turning_keys.proofs.FartherLemmas.{to_parts, from_parts}
 use Rattle.turning_keys.proofs.FartherLemmas.{part_within, own_part_within}
-use Rattle.turning_keys.proofs.FartherLemmas.{outer_no_farther, IsPartWithin}
+use Rattle.turning_keys.proofs.FartherLemmas.{far_end_no_farther, IsPartWithin}
 use Rattle.turning_keys.proofs.ReachedLemmas.{IsOwnKey, own_key, candidate_can}
 use Rattle.turning_keys.proofs.PartLemmas.{far_parts, set_part, halved_within}
 
@@ -28,10 +28,10 @@ module _ (sheet : Sheet) (season : Results) (claim : Claim) (club : ℕ)
   Part turning place key range = IsPartLeft sheet season claim club turning place key range
 
   own_turning : (turning : List ℤ)
-      → IsOutermostKey direct_places sheet season claim club turning
+      → IsNearestKey direct_places sheet season claim club turning
       → IsOwnKey sheet season club turning
-  own_turning turning outermost =
-      own_key sheet season club limits results turning outermost.0
+  own_turning turning nearest =
+      own_key sheet season club limits results turning nearest.0
 
   -- ---- the whole range
 
@@ -64,29 +64,29 @@ module _ (sheet : Sheet) (season : Results) (claim : Claim) (club : ℕ)
       }
 
   pub whole_left : (turning key : List ℤ) (place : ℕ) (range : Range)
-      → IsOutermostKey direct_places sheet season claim club turning
+      → IsNearestKey direct_places sheet season claim club turning
       → AreKnownParts claim turning place key → place < 7
       → slice_get (key_ranges sheet season [] club) place ≡ Some range
       → Part turning place key range
-  whole_left turning key place range outermost known room there =
+  whole_left turning key place range nearest known room there =
       first_left turning key known.before known.later place range
-      (own_turning turning outermost) known.parts known.counted room known.known there
+      (own_turning turning nearest) known.parts known.counted room known.known there
 
   -- an example that is known before a part is halved has a key no farther out than the one with
-  -- the outer end of the whole range there
+  -- the far end of the whole range there
   pub whole_reached : (turning key : List ℤ) (place : ℕ) (range : Range) (example : Example)
-      → IsOutermostKey direct_places sheet season claim club turning
+      → IsNearestKey direct_places sheet season claim club turning
       → Part turning place key range
       → slice_get (key_ranges sheet season [] club) place ≡ Some range
       → IsReachedWithin sheet season claim club key example
       → IsReachedWithin sheet season claim club
-      (slice_set key place (outer_end claim range)) example
-  whole_reached turning key place range example outermost left there reached =
+      (slice_set key place (far_end claim range)) example
+  whole_reached turning key place range example nearest left there reached =
       let own = key_of sheet example.finish club in
       let is = own_key sheet season club limits results own
       (candidate_can sheet season club example reached.candidate) in
       let far = far_parts claim left.later in
-      let turning_is = own_turning turning outermost in
+      let turning_is = own_turning turning nearest in
       let sized : length own ≡ length left.before + suc (length left.later) =
       omega (
         arith,
@@ -108,10 +108,10 @@ module _ (sheet : Sheet) (season : Results) (claim : Claim) (club : ℕ)
         candidate = reached.candidate;
         near =
             subst (λ (it : List ℤ). IsBeyond claim own it)
-            (sym (set_part claim left.before left.later key place (outer_end claim range)
+            (sym (set_part claim left.before left.later key place (far_end claim range)
             left.counted left.known))
-            (from_parts claim own (left.before ++ outer_end claim range ∷ far)
-            (outer_no_farther claim left.before own (length left.later) range sized is.near
+            (from_parts claim own (left.before ++ far_end claim range ∷ far)
+            (far_end_no_farther claim left.before own (length left.later) range sized is.near
             (part_within left.before own (key_ranges sheet season [] club) range is.low is.high at)
             (to_parts claim own (left.before ++ far_part claim ∷ far) long
             (subst (λ (it : List ℤ). IsBeyond claim own it) left.known reached.near))));
@@ -151,10 +151,10 @@ module _ (sheet : Sheet) (season : Results) (claim : Claim) (club : ℕ)
       absurd (omega (arith, counted, sized, length-append before (part ∷ later)))
 
   pub all_known : (turning key : List ℤ)
-      → IsOutermostKey direct_places sheet season claim club turning
+      → IsNearestKey direct_places sheet season claim club turning
       → AreKnownParts claim turning 7 key → turning ≡ key
-  all_known turning key outermost known =
-      let own = own_turning turning outermost in
+  all_known turning key nearest known =
+      let own = own_turning turning nearest in
       let none = no_later known.before known.later known.counted
       (sym (ap length known.parts) ∙ own.sized) in
       known.parts ∙ ap (λ (it : List ℤ). known.before ++ it) none

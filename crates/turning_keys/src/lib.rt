@@ -15,5 +15,5 @@ mod settle;
 mod sought;
 mod turning;
 
-pub use laws::turning_keys_exist;
+pub use laws::{turning_keys_are_within, turning_keys_exist};
 pub use turning::{KeyEnd, turning_key};

@@ -2,12 +2,12 @@
 
 ghost use Rattle.std.specs.Prelude.{◌≡◌};
 ghost use Rattle.club_keys.specs.inside.KeyEnds.{key_parts};
-ghost use Rattle.group_search.specs.inside.KindQuestions.{group_question_of};
+ghost use Rattle.cup_groups.specs.inside.KindQuestions.{group_question_of};
 ghost use Rattle.turning_keys.specs.inside.TurningQuestions as asked;
 
 use club_keys::ClubKey;
+use cup_groups::KindQuestion;
 use cup_sheet::GroupKind;
-use group_search::KindQuestion;
 use league_core::Claim;
 
 /// The turning key that is sought: of a side, for a club by its number in the group, from 0.
@@ -31,9 +31,9 @@ impl Sought {
     }
 
     /// Whether it can be with a key that is farther in.
-    pub(crate) fn outer(&self, key: &ClubKey) -> KindQuestion
+    pub(crate) fn nearer(&self, key: &ClubKey) -> KindQuestion
         ensures question { group_question_of result
-            ≡ asked.outer_question self.now.claim self.now.club (key_parts key.now) }
+            ≡ asked.nearer_question self.now.claim self.now.club (key_parts key.now) }
         ensures club { result.club ≡ self.now.club }
     {
         match self.claim {

@@ -13,9 +13,10 @@ use crate::halve::Reached;
 use crate::key_part::far_key;
 use crate::sought::Sought;
 use club_keys::ClubKey;
+use cup_groups::KindQuestion;
 use cup_sheet::GroupReason;
 use depth_search::{CaseNode, SearchEnd};
-use group_search::{KindQuestion, solve_group};
+use group_search::solve_group;
 use league_core::{Claim, OutOfMemory, Season, Sheet};
 use std::alloc::Global;
 use tree_arena::Example;
@@ -113,7 +114,7 @@ fn last_question(
         example }
     ensures { IfOk result (IsKeyEnd sheet.now season.now sought.claim sought.club) }
 {
-    let question = sought.outer(&key);
+    let question = sought.nearer(&key);
     match solve_group(alloc, sheet, season, &question)? {
         SearchEnd::Won(_) => unreachable!(),
         SearchEnd::Refuted(nodes) => Ok(KeyEnd::Found {

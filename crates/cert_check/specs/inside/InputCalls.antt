@@ -47,8 +47,8 @@ IfRead known fact = (contents : Contents) → known ≡ Some contents → fact c
 -- contents that were to come before the call, and those that are to come after it, by its answer:
 -- an outcome is what the contents come to; before a fault of the source some lines came, which
 -- come to nothing yet, so none of them was refused; running out of memory may come anywhere
-abbrev pub ChecksBy : (Contents → Option CheckOutcome) → Contents → Option Contents
-    → Result CheckOutcome CheckFailure → Type 0
+abbrev pub ChecksBy : {O : Type 0} → (Contents → Option O) → Contents → Option Contents
+    → Result O CheckFailure → Type 0
 ChecksBy comes_to contents after (Ok outcome) = comes_to contents ≡ Some outcome
 ChecksBy comes_to contents after (Err failure.ReadFault) =
     (lines : List (ℕ × List ℕ)) × (Some contents ≡ option_map (with_lines lines) after)
@@ -79,7 +79,7 @@ LeavesCheck new left (Err failure.ReadFault) = LeavesReader new left (Err read_s
 LeavesCheck new left (Err failure.OutOfMemory) = Unit {0}
 
 -- a fault of the source is returned only if its count rose, and else that count stays
-abbrev pub CountsCheck : ℕ → ℕ → Result CheckOutcome CheckFailure → Type 0
+abbrev pub CountsCheck : {O : Type 0} → ℕ → ℕ → Result O CheckFailure → Type 0
 CountsCheck before now (Ok outcome) = now ≡ before
 CountsCheck before now (Err failure.ReadFault) = Rose before now
 CountsCheck before now (Err failure.OutOfMemory) = now ≡ before

@@ -4,7 +4,6 @@
 use Rattle.std.specs.Prelude.{◌≡◌, ◌⊎◌, ◌<◌, ℕ, ◌-◌, ℤ, not, ◌==◌, IsTrue, List, []}
 use Rattle.std.specs.Prelude.{length, All, slice_get, Some}
 use Rattle.league_core.specs.declared.question.Claim.{Claim}
-use Rattle.league_core.specs.declared.question.Claim.TheVariants.{Inside, Outside}
 use Rattle.league_core.specs.game.Results.{Results}
 use Rattle.cup_sheet.specs.declared.cup.Cup.{Cup}
 use Rattle.cup_sheet.specs.declared.question.GroupKind.{GroupKind}
@@ -14,7 +13,7 @@ use Rattle.cup_sheet.specs.JointFinishes.{GroupState, states_of}
 use Rattle.cup_sheet.specs.Qualifying.{CanEndSo}
 use Rattle.cup_sheet.specs.GroupQuestions.{GroupQuestion, HasGroupExample}
 use Rattle.cup_sheet.specs.KeyBounds.{place_kind, halving_kind, others_kind}
-use Rattle.cup_sheet.specs.CupAnswers.{IsClubOf, AreRising, qualifies_on}
+use Rattle.cup_sheet.specs.CupAnswers.{IsClubOf, AreRising, qualifies_on, shown_groups}
 use Rattle.cup_laws.specs.inside.CupTruths.{AreCupResults}
 
 -- some finish of the group shows it
@@ -29,11 +28,6 @@ CanHaveCandidate cup seasons kind mine key number =
     × (other : ℕ) × (other < length group.sheet.clubs)
     × CanEndInGroup group (record { kind = kind; club = other; key = key })
 
--- how many other groups have to: for missing as many as qualify, for qualifying as many as do not
-abbrev pub groups_needed : Cup → Claim → ℕ
-groups_needed cup Outside = cup.quota
-groups_needed cup Inside = length cup.groups - cup.quota
-
 -- a club can be on a side by its place alone; or as a candidate with a key no better than some key,
 -- for missing, or no worse, while so many other groups can have a candidate on its other side
 abbrev pub CanBeOnSide : Cup → List Results → Claim → GroupState → ℕ → Type 0
@@ -41,7 +35,7 @@ CanBeOnSide cup seasons claim mine own =
     CanEndInGroup mine (record { kind = place_kind claim; club = own; key = [] })
     ⊎ ((key : List ℤ)
     × CanEndInGroup mine (record { kind = halving_kind claim; club = own; key = key })
-    × (numbers : List ℕ) × (length numbers ≡ groups_needed cup claim) × AreRising 0 numbers
+    × (numbers : List ℕ) × (length numbers ≡ shown_groups cup claim) × AreRising 0 numbers
     × All (CanHaveCandidate cup seasons (others_kind claim) mine key) numbers)
 
 -- where the club is on a side at some joint finish, it can be so by the groups

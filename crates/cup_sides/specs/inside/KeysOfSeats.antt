@@ -8,7 +8,7 @@ use Rattle.depth_search.specs.declared.kind.CaseNode.{CaseNode}
 use Rattle.cup_sheet.specs.declared.cup.Cup.{Cup}
 use Rattle.cup_sheet.specs.declared.question.GroupReason.{GroupReason}
 use Rattle.group_search.specs.inside.GroupTasks.{IsGroupRefutedBy}
-use Rattle.runners_up.specs.declared.seat.ClubSeat.{ClubSeat}
+use Rattle.cup_groups.specs.declared.seat.ClubSeat.{ClubSeat}
 use Rattle.runners_up.specs.inside.SidesByPlace.{IsOwnGroup, asked_of_place}
 use Rattle.turning_keys.specs.declared.turning.KeyEnd.{KeyEnd}
 use Rattle.turning_keys.specs.inside.KeyEndings.{IsKeyEnd, IsExampleAt}

@@ -20,7 +20,7 @@ use Rattle.cup_sheet.specs.GroupTrees.{GroupTree, open_zone, refuted_zone, split
 use Rattle.cup_sheet.specs.GroupTrees.{IsFairGroupSplit, IsGroupRefutation, AreSplitsFair}
 use Rattle.cup_sheet.specs.GroupTrees.{IsFairlySpentGroupTree, are_all_new}
 use Rattle.group_search.specs.declared.task.GroupTask.{GroupTask}
-use Rattle.group_search.specs.inside.KindQuestions.{group_question_of}
+use Rattle.cup_groups.specs.inside.KindQuestions.{group_question_of}
 use Rattle.group_search.specs.inside.GroupLooks.{IsGroupExampleOf, IsGroupReasonIn}
 
 -- ---- what is asked

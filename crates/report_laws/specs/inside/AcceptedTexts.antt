@@ -17,10 +17,11 @@ use Rattle.run_ends.specs.declared.status.Status.TheVariants.{Done}
 use Rattle.session_turns.specs.Plays.{Played}
 use Rattle.session_turns.specs.Answers.{IsAnswerTo}
 use Rattle.session_turns.specs.Courses.{course_of}
-use Rattle.futmax_main.specs.Checks.{IsCheckText, accepted_row}
+use Rattle.futmax_main.specs.Checks.{IsCheckText, accepted_row, report_judge}
 use Rattle.session_turns.specs.Texts.{AreAnswers}
-use Rattle.session_turns.specs.Top.{session_status, IsText}
 use Rattle.report_laws.specs.inside.AcceptedAnswers.{unsettled_one}
+use Rattle.run_ends.specs.Runs.{IsText, session_status}
+use Rattle.session_turns.specs.Texts.{session_kind}
 
 -- the mode whose answers with proofs are reports of this kind
 abbrev pub mode_of_kind : ReportKind → Mode
@@ -75,9 +76,10 @@ unsettled_told kind (asked ∷ asks) text told =
 -- ones as the text has, if all that is checked is not longer than an input may be
 abbrev pub TextsAreAccepted : Type 0
 TextsAreAccepted =
-    (kind : ReportKind) (input text : List ℕ) → session_status (mode_of_kind kind) input ≡ Done
-    → (told : IsText (mode_of_kind kind) input text)
+    (kind : ReportKind) (input text : List ℕ) → session_status (session_kind (mode_of_kind kind))
+    input ≡ Done
+    → (told : IsText (session_kind (mode_of_kind kind)) input text)
     → length (input_with_answers input text) ≤ input_limit
     → let asks = (course_of (mode_of_kind kind) (contents_of input)).asks in
-    IsCheckText kind (input_with_answers input text) Done
+    IsCheckText (report_judge kind) (input_with_answers input text) Done
     (accepted_row (rows_of_asks asks) (unsettled_told kind asks told.0 told.2))

@@ -7,6 +7,8 @@ use Rattle.port_core.specs.declared.line.ReadStop.{ReadStop}
 use Rattle.port_core.specs.declared.line.ReadStop.TheVariants as read_stop
 use Rattle.fixture_sheet.specs.declared.fault.SheetStop.{SheetStop}
 use Rattle.fixture_sheet.specs.declared.fault.SheetStop.TheVariants as sheet_stop
+use Rattle.cup_sheet.specs.declared.fault.CupStop.{CupStop}
+use Rattle.cup_sheet.specs.declared.fault.CupStop.TheVariants as cup_stop
 use Rattle.result_log.specs.declared.fault.FeedStop.{FeedStop}
 use Rattle.result_log.specs.declared.fault.FeedStop.TheVariants as feed_stop
 use Rattle.run_ends.specs.declared.status.Status.{Status}
@@ -32,6 +34,13 @@ stop_of_sheet (sheet_stop.Fault number fault) =
     Refused (record { number = number; cause = cause.Sheet fault })
 stop_of_sheet (sheet_stop.Read stop) = stop_of_read stop
 stop_of_sheet sheet_stop.OutOfMemory = OutOfMemory
+
+-- no cup is given
+abbrev pub stop_of_cup : CupStop → InputStop
+stop_of_cup (cup_stop.Fault number fault) =
+    Refused (record { number = number; cause = cause.Cup fault })
+stop_of_cup (cup_stop.Read stop) = stop_of_read stop
+stop_of_cup cup_stop.OutOfMemory = OutOfMemory
 
 -- the feed stopped
 abbrev pub stop_of_feed : FeedStop → InputStop

@@ -1,14 +1,14 @@
 -- What all other groups come to, for a key: which have a candidate on the far side, which cannot
 -- have one, and of which it is not known.
-use Rattle.std.specs.Prelude.{◌≡◌, ◌<◌, ℕ, ◌+◌, ℤ, not, ◌==◌, nat_lt, if◌then◌else◌, IsTrue}
-use Rattle.std.specs.Prelude.{List, []}
+use Rattle.std.specs.Prelude.{◌≡◌, ◌⊎◌, ◌<◌, ◌≤◌, ℕ, ◌+◌, ℤ, not, ◌==◌, nat_lt, if◌then◌else◌}
+use Rattle.std.specs.Prelude.{IsTrue, List, []}
 use Rattle.std.specs.Prelude.{◌∷◌, ◌++◌, length, map, All, slice_get, slice_set, Some, Option, None}
 use Rattle.league_core.specs.declared.sheet.Sheet.{Sheet}
 use Rattle.league_core.specs.declared.question.Claim.{Claim}
 use Rattle.league_core.specs.game.Results.{Results}
 use Rattle.tree_arena.specs.declared.example.Example.{Example}
 use Rattle.cup_sheet.specs.declared.cup.Cup.{Cup}
-use Rattle.cup_sheet.specs.CupAnswers.{AreRising}
+use Rattle.cup_sheet.specs.CupAnswers.{AreRising, listed_groups, shown_groups}
 use Rattle.runners_up.specs.declared.others.GroupAsked.{GroupAsked}
 use Rattle.runners_up.specs.declared.others.GroupAsked.TheVariants.{Shown, Refuted, Spent}
 use Rattle.runners_up.specs.declared.survey.EmptyGroup.{EmptyGroup}
@@ -73,6 +73,19 @@ pub record IsSurveyed (cup : Cup) (seasons : List Results) (claim : Claim) (key 
   pub listed : All (IsEmptyGroup cup seasons claim key mine) survey.listed.items
   pub counted : AreAllCounted cup seasons claim key mine count (length survey.shown.items)
       (length survey.listed.items) survey.unknown
+
+-- as many groups are shown as show the side, or as many are listed as refute it
+abbrev pub AreGroupsEnough : Cup → Claim → ℕ → ℕ → Type 0
+AreGroupsEnough cup claim shown listed =
+    (shown_groups cup claim ≤ shown) ⊎ (listed_groups cup claim ≤ listed)
+
+-- what the groups came to that were asked: all of them, or enough
+pub record IsSurveyOver (cup : Cup) (seasons : List Results) (claim : Claim) (key : List ℤ)
+    (mine : ℕ) (before : List Example) (survey : GroupSurvey) : Type 0 where
+  pub count : ℕ
+  pub asked : IsSurveyed cup seasons claim key mine before count survey
+  pub over : (count ≡ length cup.groups)
+      ⊎ AreGroupsEnough cup claim (length survey.shown.items) (length survey.listed.items)
 
 -- one group more is kept
 abbrev pub IsGroupNoted : ℕ → GroupAsked → GroupSurvey → GroupSurvey → Type 0

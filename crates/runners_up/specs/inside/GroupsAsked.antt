@@ -13,8 +13,8 @@ use Rattle.depth_search.specs.declared.kind.SearchEnd.TheVariants as ends
 use Rattle.cup_sheet.specs.declared.question.GroupReason.{GroupReason}
 use Rattle.cup_sheet.specs.GroupQuestions.{GroupQuestion}
 use Rattle.cup_sheet.specs.KeyBounds.{others_kind}
-use Rattle.group_search.specs.declared.question.KindQuestion.{KindQuestion}
-use Rattle.group_search.specs.inside.KindQuestions.{group_question_of}
+use Rattle.cup_groups.specs.declared.question.KindQuestion.{KindQuestion}
+use Rattle.cup_groups.specs.inside.KindQuestions.{group_question_of}
 use Rattle.group_search.specs.inside.GroupTasks.{IsGroupRefutedBy, IsGroupSpentOn}
 use Rattle.runners_up.specs.declared.others.GroupAsked.{GroupAsked}
 use Rattle.runners_up.specs.declared.others.GroupAsked.TheVariants.{Shown, Refuted, Spent}

@@ -7,8 +7,8 @@ use Rattle.tree_arena.specs.declared.example.Example.{Example}
 use Rattle.cup_sheet.specs.declared.cup.Cup.{Cup}
 use Rattle.cup_sheet.specs.CupAnswers.{IsCupExample}
 use Rattle.runners_up.specs.declared.joint.JointFinish.{JointFinish}
-use Rattle.runners_up.specs.declared.seat.ClubSeat.{ClubSeat}
-use Rattle.runners_up.specs.inside.ClubSeats.{seat_block, IsSeatOf}
+use Rattle.cup_groups.specs.declared.seat.ClubSeat.{ClubSeat}
+use Rattle.cup_groups.specs.inside.ClubSeats.{seat_block, IsSeatOf}
 use Rattle.runners_up.specs.inside.JointEnds.{AreGroupEnds, group_finishes, joint_lots}
 use Rattle.runners_up.specs.inside.JointEnds.{IsSideShown}
 

@@ -1,7 +1,7 @@
 -- How a cup ends if each of its groups ends in a given way: the finishes of all groups, and lots of
 -- all clubs. These are the lots of the groups one after another, but that the clubs of one group
 -- are drawn before all others, or after them; and what such an end shows of a club of that group.
-use Rattle.std.specs.Prelude.{◌≡◌, ◌⊎◌, ◌<◌, ◌≤◌, ℕ, zero, suc, ◌+◌, ◌-◌, ℤ, Bool, true, false, not}
+use Rattle.std.specs.Prelude.{◌≡◌, ◌⊎◌, ◌<◌, ◌≤◌, ℕ, ◌+◌, ℤ, Bool, true, false, not}
 use Rattle.std.specs.Prelude.{◌==◌}
 use Rattle.std.specs.Prelude.{IsTrue, List, [], ◌∷◌, ◌++◌, length, map, filter, All, slice_get}
 use Rattle.std.specs.Prelude.{Some}
@@ -19,7 +19,8 @@ use Rattle.cup_sheet.specs.Cups.{IsCup}
 use Rattle.cup_sheet.specs.JointFinishes.{ClubBlock, is_in_block}
 use Rattle.cup_sheet.specs.GroupQuestions.{holds_in_group}
 use Rattle.cup_sheet.specs.KeyBounds.{place_kind, others_kind}
-use Rattle.cup_sheet.specs.CupAnswers.{AreRising, IsCupExample}
+use Rattle.cup_sheet.specs.CupAnswers.{AreRising, IsCupExample, shown_groups}
+use Rattle.cup_groups.specs.GroupStarts.{clubs_before}
 
 -- ---- how the groups end
 
@@ -38,12 +39,6 @@ AreGroupEnds _ _ _ = ⊥
 -- the finish of each group
 abbrev pub group_finishes : List Example → List Results
 group_finishes ends = map (λ (end : Example). end.finish) ends
-
--- how many clubs the groups before one have together
-abbrev pub clubs_before : List Sheet → ℕ → ℕ
-clubs_before [] number = 0
-clubs_before (group ∷ groups) zero = 0
-clubs_before (group ∷ groups) (suc number) = length group.clubs + clubs_before groups number
 
 -- the clubs of a group among those of the cup, by the group's number
 abbrev pub block_of : List Sheet → ℕ → Sheet → ClubBlock
@@ -75,11 +70,6 @@ joint_lots claim block ends =
     ++ filter (is_in_turn claim block false) (lots_from 0 ends)
 
 -- ---- what is shown by it
-
--- how many other groups have to have a candidate on the far side of the club's key
-abbrev pub shown_groups : Cup → Claim → ℕ
-shown_groups cup Outside = cup.quota
-shown_groups cup Inside = length cup.groups - cup.quota
 
 -- a club of a group is its candidate, for missing with a key no less than this one, for qualifying
 -- with one no greater

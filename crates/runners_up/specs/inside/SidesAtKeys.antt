@@ -9,10 +9,10 @@ use Rattle.tree_arena.specs.declared.example.Example.{Example}
 use Rattle.cup_sheet.specs.declared.cup.Cup.{Cup}
 use Rattle.cup_sheet.specs.CupAnswers.{AreRising, IsCupExample, listed_groups}
 use Rattle.cup_sheet.specs.CupLimits.{direct_places}
-use Rattle.runners_up.specs.declared.seat.ClubSeat.{ClubSeat}
+use Rattle.cup_groups.specs.declared.seat.ClubSeat.{ClubSeat}
 use Rattle.runners_up.specs.declared.side.SideAtKey.{SideAtKey}
 use Rattle.runners_up.specs.declared.side.SideAtKey.TheVariants.{Shown, Refuted, Spent}
-use Rattle.runners_up.specs.inside.ClubSeats.{IsSeatOf}
+use Rattle.cup_groups.specs.inside.ClubSeats.{IsSeatOf}
 use Rattle.runners_up.specs.inside.GroupSurveys.{IsEmptyGroup, IsOpenGroup, group_numbers}
 use Rattle.runners_up.specs.inside.JointEnds.{IsGroupEnd, group_finishes}
 

@@ -10,12 +10,12 @@ use Rattle.cup_sheet.specs.CupLimits.{direct_places}
 use Rattle.cup_sheet.specs.GroupQuestions.{GroupQuestion, IsGroupExample}
 use Rattle.cup_sheet.specs.KeyBounds.{place_kind}
 use Rattle.group_search.specs.inside.GroupTasks.{IsGroupRefutedBy, IsGroupSpentOn}
-use Rattle.group_search.specs.inside.KindQuestions.{group_question_of}
+use Rattle.cup_groups.specs.inside.KindQuestions.{group_question_of}
 use Rattle.runners_up.specs.declared.joint.JointFinish.{JointFinish}
 use Rattle.runners_up.specs.declared.place.SideByPlace.{SideByPlace}
 use Rattle.runners_up.specs.declared.place.SideByPlace.TheVariants.{Shown, Refuted, Spent}
-use Rattle.runners_up.specs.declared.seat.ClubSeat.{ClubSeat}
-use Rattle.runners_up.specs.inside.ClubSeats.{IsSeatOf}
+use Rattle.cup_groups.specs.declared.seat.ClubSeat.{ClubSeat}
+use Rattle.cup_groups.specs.inside.ClubSeats.{IsSeatOf}
 use Rattle.runners_up.specs.inside.JointEnds.{group_finishes}
 
 -- what is asked: whether the club can end at a direct place, or below the candidate

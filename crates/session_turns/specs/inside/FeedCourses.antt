@@ -15,9 +15,9 @@ use Rattle.run_ends.specs.declared.run_end.RunEnd.{RunEnd}
 use Rattle.run_ends.specs.declared.run_end.RunEnd.TheVariants.{Complete, Refused}
 use Rattle.session_turns.specs.Plays.{Played}
 use Rattle.session_turns.specs.Courses.{Course, Origin, about_in, asks_about, awaits_saved}
-use Rattle.session_turns.specs.Courses.{course_closed, course_ended, course_from}
+use Rattle.session_turns.specs.Courses.{course_closed, course_from}
 use Rattle.run_ends.specs.InputEnds.{outcome_at_stop}
-use Rattle.session_turns.specs.Courses.{with_asks}
+use Rattle.run_ends.specs.Courses.{course_ended, with_asks}
 
 -- where the feed ends: it may end anywhere
 abbrev pub outcome_at_feed : Result Entry FeedStop → RunEnd

@@ -1,11 +1,9 @@
 -- What a run keeps from ask to ask: the way from the whole input to where it stands.
 use Rattle.std.specs.Prelude.{◌≡◌, ◌≤◌, ℕ, Bool, List, Option, Some, None, IfSome}
-use Rattle.std.specs.Io.KnownBytes.{append_known}
 use Rattle.league_core.specs.declared.sheet.Sheet.{Sheet}
 use Rattle.league_core.specs.game.Seasons.{epoch_of, season_after}
 use Rattle.league_core.specs.search.Trees.{Tree}
-use Rattle.port_core.specs.Contents.{Position, start, Contents, with_lines}
-use Rattle.port_core.specs.inside.ReaderCalls.{Passes}
+use Rattle.port_core.specs.Contents.{Position}
 use Rattle.result_log.specs.inside.FeedParts.{LiveReading}
 use Rattle.result_log.specs.inside.Rounds.{live_entry}
 use Rattle.branch_pool.specs.inside.States.{PoolView}
@@ -13,10 +11,9 @@ use Rattle.what_if.specs.inside.StepCalls.{live_step}
 use Rattle.pool_save.specs.inside.SavedPools.{AreNearlySaved}
 use Rattle.command_words.specs.declared.command.Mode.{Mode}
 use Rattle.command_words.specs.declared.command.Mode.TheVariants.{WhatIf, Resume}
-use Rattle.session_turns.specs.Plays.{Played}
-use Rattle.session_turns.specs.Courses.{Course, Origin, course_from, course_of, line_of, saved_at}
-use Rattle.session_turns.specs.Courses.{with_asks}
-use Rattle.session_turns.specs.Texts.{AreAnswers}
+use Rattle.session_turns.specs.Courses.{Origin, course_from, line_of, saved_at}
+use Rattle.run_ends.specs.inside.Ways.{Path}
+use Rattle.session_turns.specs.Texts.{session_kind}
 
 -- ---- how lines are read
 
@@ -29,29 +26,6 @@ line_after mode origin events =
 abbrev pub round_line : Mode → Sheet → LiveReading
 round_line WhatIf sheet = live_step sheet
 round_line mode sheet = live_entry sheet
-
--- ---- the way
-
--- lines already taken wrote whole answers to these asks: whatever follows these lines, the course
--- is these asks, and then what follows from there on
-pub record LeadsOn (mode : Mode) (taken : List (ℕ × List ℕ)) (written : List ℕ)
-    (from : Contents → Course) : Type 0 where
-  pub asks : List Played
-  pub answers : AreAnswers mode asks written
-  pub course : (rest : Contents)
-      → course_of mode (with_lines taken rest) ≡ with_asks asks (from rest)
-
--- the way from the whole input to a position in it and what stands from there on, with the sink's
--- bytes before and now, and whether the source has told its end, before and now; nothing is said
--- if the source does not show its bytes
-abbrev pub Path : Mode → Option (List ℕ) → Bool → Option (List ℕ) → Bool → Position
-    → (Contents → Course) → Option (List ℕ) → Option (List ℕ) → Type 0
-Path mode None ended left ended' position from old now = Unit {0}
-Path mode (Some input) ended None ended' position from old now = ⊥
-Path mode (Some input) ended (Some left) ended' position from old now =
-    (taken : List (ℕ × List ℕ)) × (written : List ℕ) × (now ≡ append_known old written)
-    × Passes start input ended position left ended' taken
-    × LeadsOn mode taken written from
 
 -- ---- the pool on the way
 
@@ -76,4 +50,5 @@ abbrev pub PathToPool : Mode → Option (List ℕ) → Bool → Option (List ℕ
     → PoolView → Option (List ℕ) → Option (List ℕ) → Type 0
 PathToPool mode input ended left ended' position pool old now =
     (origin : Origin) × IsOriginOf mode origin pool
-    × Path mode input ended left ended' position (course_from mode origin pool.log) old now
+    × Path (session_kind mode) input ended left ended' position (course_from mode origin pool.log)
+    old now

@@ -1,10 +1,8 @@
 -- Where the reading of a session stands from turn to turn, and where it stops.
-use Rattle.std.specs.Prelude.{◌≡◌, ℕ, Bool, List, Option, Some, None, Result, Ok, Err}
+use Rattle.std.specs.Prelude.{ℕ, Bool, List, Option, Result, Ok, Err}
 use Rattle.league_core.specs.declared.sheet.Sheet.{Sheet}
 use Rattle.league_core.specs.declared.season.Event.{Event}
-use Rattle.port_core.specs.Contents.{Contents, with_lines}
-use Rattle.port_core.specs.Readers.{LineReaderView, TakesInput, contents_to_come}
-use Rattle.fixture_sheet.specs.LastReads.{ReadsOnWay}
+use Rattle.port_core.specs.Readers.{LineReaderView}
 use Rattle.branch_pool.specs.inside.States.{PoolView}
 use Rattle.pool_save.specs.SavedReadings.{nothing_saved}
 use Rattle.command_words.specs.declared.command.Mode.{Mode}
@@ -14,39 +12,24 @@ use Rattle.session_turns.specs.declared.turn.Step.{Step}
 use Rattle.session_turns.specs.declared.turn.Step.TheVariants.{GoesOn, Ends}
 use Rattle.session_turns.specs.Courses.{Origin, first_origin}
 use Rattle.session_turns.specs.inside.Progress.{IsOriginOf}
-use Rattle.session_turns.specs.LastReads.{fresh_reader, LeadToFeed, LeadToSavedBy, IsOnCourse}
-use Rattle.session_turns.specs.LastReads.{StopsSession}
+use Rattle.run_ends.specs.LastReads.{StopsSession}
+use Rattle.run_ends.specs.inside.Ways.{HasCome}
+use Rattle.session_turns.specs.LastReads.{LeadSession, LeadToFeed, LeadToSavedBy}
 use Rattle.run_ends.specs.declared.refuse.InputStop.{InputStop}
 use Rattle.run_ends.specs.inside.Stops.{StopEnds}
-
--- the contents taken so far lead on like this, if they are shown
-abbrev pub Stands : (List (ℕ × List ℕ) → Type 0) → Option Contents → Option Contents → Type 0
-Stands Leads None after = Unit {0}
-Stands Leads (Some before) None = ⊥
-Stands Leads (Some before) (Some after) =
-    (taken : List (ℕ × List ℕ)) × (before ≡ with_lines taken after) × Leads taken
-
--- a session that began at a source in its first state has come to where the contents lead on like
--- this, and its last read came on the way
-pub record HasCome {S : Type 0} (left : S → Option (List ℕ)) (reads : S → List ℕ → S → Type 0)
-    (mode : Mode) (first : S) (reader : LineReaderView) (now : S)
-    (Leads : List (ℕ × List ℕ) → Type 0) : Type 0 where
-  pub way : Stands Leads (contents_to_come fresh_reader (left first))
-      (contents_to_come reader (left now))
-  pub takes : TakesInput fresh_reader reader (left first) (left now)
-  pub last : ReadsOnWay left reads (IsOnCourse mode) fresh_reader reader first now
 
 -- they lead on from an origin, after these events
 abbrev pub HasComeTo : {S : Type 0} → (S → Option (List ℕ)) → (S → List ℕ → S → Type 0) → Mode
     → S → LineReaderView → S → Origin → List Event → Type 0
 HasComeTo left reads mode first reader now origin events =
-    HasCome left reads mode first reader now (λ taken. LeadToFeed mode taken origin events)
+    HasCome left reads (LeadSession mode) first reader now (λ taken. LeadToFeed mode taken origin
+    events)
 
 -- they lead into a saved text after these events, of which nothing is read
 abbrev pub HasComeToSaved : {S : Type 0} → (S → Option (List ℕ)) → (S → List ℕ → S → Type 0)
     → Mode → S → LineReaderView → S → Sheet → List Event → Type 0
 HasComeToSaved left reads mode first reader now sheet events =
-    HasCome left reads mode first reader now
+    HasCome left reads (LeadSession mode) first reader now
     (λ taken. LeadToSavedBy mode taken sheet events nothing_saved)
 
 -- the same with this pool: from an origin of it, over what was reported
@@ -62,7 +45,7 @@ abbrev pub TurnStops : {S : Type 0} → (S → Option (List ℕ)) → (S → Lis
 TurnStops left reads mode first reader now (GoesOn next) =
     HasComeToPool left reads mode first reader now next
 TurnStops left reads mode first reader now (Ends status) =
-    StopsSession left reads mode first now status
+    StopsSession left reads (LeadSession mode) first now status
 
 -- the same from wherever the session had come to
 abbrev pub RoundStops : {S : Type 0} → (S → Option (List ℕ)) → (S → List ℕ → S → Type 0)
@@ -76,7 +59,7 @@ abbrev pub RoundsStop : {S : Type 0} → (S → Option (List ℕ)) → (S → Li
     → Mode → PoolView → LineReaderView → S → S → Status → Type 0
 RoundsStop {S = S} left reads mode pool old before after status =
     (first : S) → HasComeToPool left reads mode first old before pool
-    → StopsSession left reads mode first after status
+    → StopsSession left reads (LeadSession mode) first after status
 
 -- rounds lead on from wherever the session had come to, from pool to pool
 abbrev pub ComesOn : {S : Type 0} → (S → Option (List ℕ)) → (S → List ℕ → S → Type 0)
@@ -92,7 +75,7 @@ abbrev pub StopsBy : {S : Type 0} → (S → Option (List ℕ)) → (S → List 
     → S → S → InputStop → Type 0
 StopsBy left reads mode first now stop =
     (old new : Option (List ℕ)) (status : Status) → StopEnds stop old new status
-    → StopsSession left reads mode first now status
+    → StopsSession left reads (LeadSession mode) first now status
 
 -- the feed before the saved text was read from wherever the session had come to, and it has come to
 -- the saved text; or it stops

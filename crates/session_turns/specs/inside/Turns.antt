@@ -1,6 +1,6 @@
 -- What one turn of a run does: what an ask, a fault and the end leave of the sink's bytes, and how
 -- the way goes on. A turn is the reading of the sheet, or a round of the feed and its ask.
-use Rattle.std.specs.Prelude.{◌≡◌, ◌≢◌, ◌<◌, ◌≤◌, ◌⊎◌, ℕ, Bool, List, [], map, Option, Some, None}
+use Rattle.std.specs.Prelude.{◌≡◌, ◌<◌, ◌≤◌, ◌⊎◌, ℕ, Bool, List, [], map, Option, Some, None}
 use Rattle.std.specs.Prelude.{Result, Ok, Err}
 use Rattle.std.specs.Io.KnownBytes.{append_known}
 use Rattle.league_core.specs.declared.sheet.Sheet.{Sheet}
@@ -19,11 +19,11 @@ use Rattle.answer_rows.specs.declared.output.OutputStop.{OutputStop}
 use Rattle.answer_rows.specs.declared.output.OutputStop.TheVariants as output
 use Rattle.answer_rows.specs.inside.Outputs.{PutsSomePrefix, PutsSomeText}
 use Rattle.run_ends.specs.declared.status.Status.{Status}
-use Rattle.run_ends.specs.declared.status.Status.TheVariants.{Done, BadWords}
-use Rattle.run_ends.specs.declared.status.Status.TheVariants.{WriteFault, OutOfMemory, NotProved}
+use Rattle.run_ends.specs.declared.status.Status.TheVariants.{BadWords}
+use Rattle.run_ends.specs.declared.status.Status.TheVariants.{WriteFault, OutOfMemory}
 use Rattle.pool_save.specs.SavedReadings.{nothing_saved}
 use Rattle.command_words.specs.declared.command.Mode.{Mode}
-use Rattle.command_words.specs.declared.command.Mode.TheVariants.{Verdicts, Save, Resume, Check}
+use Rattle.command_words.specs.declared.command.Mode.TheVariants.{Verdicts, Save, Resume}
 use Rattle.run_ends.specs.declared.run_end.RunEnd.TheVariants.{Complete}
 use Rattle.session_turns.specs.declared.turn.Step.{Step}
 use Rattle.session_turns.specs.declared.turn.Step.TheVariants.{GoesOn, Ends}
@@ -32,10 +32,13 @@ use Rattle.run_ends.specs.declared.refuse.InputStop.TheVariants as stop
 use Rattle.session_turns.specs.Plays.{Played, played_after}
 use Rattle.session_turns.specs.Courses.{course_from_saved}
 use Rattle.session_turns.specs.Answers.{IsAnswerTo}
-use Rattle.session_turns.specs.Texts.{IsLastText}
-use Rattle.session_turns.specs.inside.Progress.{KeepsSaved, Path, PathToPool}
+use Rattle.run_ends.specs.Texts.{IsLastText}
+use Rattle.session_turns.specs.Texts.{IsSavedText, session_kind}
+use Rattle.run_ends.specs.inside.Ways.{Path}
+use Rattle.run_ends.specs.inside.RunTurns.{AskEnds, EndGives, MayEndSession}
+use Rattle.session_turns.specs.inside.Progress.{KeepsSaved, PathToPool}
 use Rattle.run_ends.specs.inside.Stops.{CountsEnd, CountsStop, StopEnds, stop_of_feed}
-use Rattle.session_turns.specs.Top.{Counts, Serves}
+use Rattle.run_ends.specs.Runs.{Counts, Serves}
 
 -- ---- the pool of a session
 
@@ -101,13 +104,6 @@ AnswersAsk mode pool about saved old now (Err output.OutOfMemory) =
 
 -- ---- what ends a run
 
--- how an ask ends it, if it does
-abbrev pub AskEnds : Mode → Played → Option (List ℕ) → Option (List ℕ) → Status → Type 0
-AskEnds mode asked old now OutOfMemory =
-    (now ≡ old) ⊎ PutsSomePrefix (IsAnswerTo mode asked) old now
-AskEnds mode asked old now WriteFault = PutsSomePrefix (IsAnswerTo mode asked) old now
-AskEnds mode asked old now status = ⊥
-
 -- a turn on an ask: its answer is written, or the run ends
 abbrev pub AskGives : Mode → PoolView → Option ℕ → Option (List (Option Tree)) → Option (List ℕ)
     → Option (List ℕ) → Step → Type 0
@@ -116,7 +112,7 @@ AskGives mode pool about saved old now (GoesOn next) =
     × ((answer : List ℕ) × IsAnswerTo mode (reported_to pool about saved) answer
     × (now ≡ append_known old answer))
 AskGives mode pool about saved old now (Ends status) =
-    AskEnds mode (reported_to pool about saved) old now status
+    AskEnds (IsAnswerTo mode (reported_to pool about saved)) old now status
 
 -- the run ends, with such a status
 abbrev pub EndsAs : (Status → Type 0) → Step → Type 0
@@ -131,16 +127,8 @@ closing_of mode pool = None
 -- what is written last was written; or a prefix of it, or, if memory ran out, nothing
 abbrev pub PutsClosing : {A : Type 0} → Option Played → Option (List ℕ) → Option (List ℕ)
     → Result A OutputStop → Type 0
-PutsClosing closing old now result = PutsSomeText (IsLastText Complete closing) old now result
-
--- how the end of the input ends a run: what is written last is written, or a prefix of it
-abbrev pub EndGives : Option Played → Option (List ℕ) → Option (List ℕ) → Status → Type 0
-EndGives closing old now Done =
-    (last : List ℕ) × IsLastText Complete closing last × (now ≡ append_known old last)
-EndGives closing old now WriteFault = PutsSomePrefix (IsLastText Complete closing) old now
-EndGives closing old now OutOfMemory =
-    (now ≡ old) ⊎ PutsSomePrefix (IsLastText Complete closing) old now
-EndGives closing old now status = ⊥
+PutsClosing closing old now result = PutsSomeText (IsLastText IsSavedText Complete closing) old now
+    result
 
 -- a turn after a round that is over: its ask is answered, or the run ends
 abbrev pub CloseGives : Mode → PoolView → Option ℕ → RoundEnd → Option (List ℕ)
@@ -149,7 +137,7 @@ CloseGives mode pool about round_end.Ask old now turn =
     (saved : Option (List (Option Tree))) → KeepsSaved saved pool
     → AskGives mode pool about saved old now turn
 CloseGives mode pool about round_end.End old now turn =
-    EndsAs (EndGives (closing_of mode pool) old now) turn
+    EndsAs (EndGives (IsLastText IsSavedText Complete (closing_of mode pool)) old now) turn
 CloseGives mode pool about (round_end.Stop stop) old now turn =
     EndsAs (StopEnds (stop_of_feed stop) old now) turn
 
@@ -162,20 +150,20 @@ abbrev pub TurnGives : Mode → Option (List ℕ) → Bool → Option (List ℕ)
 TurnGives mode input ended stream ended' position left old now (GoesOn next) =
     PathToPool mode input ended stream ended' position next old now
 TurnGives mode input ended stream ended' position left old now (Ends status) =
-    Serves mode input left ended' old now status
+    Serves (session_kind mode) input left ended' old now status
 
 -- whatever ends the run at this stop, it has served
 abbrev pub ServesBy : Mode → Option (List ℕ) → Option (List ℕ) → Bool → Option (List ℕ)
     → Option (List ℕ) → InputStop → Type 0
 ServesBy mode input left ended' old now stop =
     (now' : Option (List ℕ)) (status : Status) → StopEnds stop now now' status
-    → Serves mode input left ended' old now' status
+    → Serves (session_kind mode) input left ended' old now' status
 
 -- the feed before a saved text was read: the way leads to the saved text; or the run ends
 abbrev pub FeedGives : Mode → Option (List ℕ) → Bool → Option (List ℕ) → Bool → Position
     → Option (List ℕ) → Option (List ℕ) → Option (List ℕ) → Result PoolView InputStop → Type 0
 FeedGives mode input ended stream ended' position left old now (Ok next) =
-    Path mode input ended stream ended' position
+    Path (session_kind mode) input ended stream ended' position
     (course_from_saved mode next.sheet next.log nothing_saved) old now
 FeedGives mode input ended stream ended' position left old now (Err stop) =
     ServesBy mode input left ended' old now stop
@@ -199,12 +187,6 @@ abbrev pub TurnGoesOn : Mode → Sheet → ℕ → ℕ → Step → Type 0
 TurnGoesOn mode sheet old new (GoesOn next) =
     IsLive mode next × (next.sheet ≡ sheet) × (old < new) × (new ≤ input_limit)
 TurnGoesOn mode sheet old new (Ends status) = Unit {0}
-
--- a session does not end so that the words fit no mode, nor so that a report is no proof
-abbrev pub MayEndSession : Status → Type 0
-MayEndSession BadWords = ⊥
-MayEndSession NotProved = ⊥
-MayEndSession status = Unit {0}
 
 -- what a turn leaves of the counts of faults, and how it may end a session
 abbrev pub TurnCounts : ℕ → ℕ → ℕ → ℕ → Step → Type 0
@@ -230,11 +212,6 @@ CountsWords writes writes' BadWords = writes' ≡ writes
 CountsWords writes writes' OutOfMemory = writes' ≡ writes
 CountsWords writes writes' WriteFault = Rose writes writes'
 CountsWords writes writes' status = ⊥
-
--- how a run of each mode may end: words are refused by none, and only a report is no proof
-abbrev pub MayEndAs : Mode → Status → Type 0
-MayEndAs (Check wide) status = status ≢ BadWords
-MayEndAs mode status = MayEndSession status
 
 -- a stop of the opening of a session is for a fault of the source only if its count rose, and else
 -- the count stays

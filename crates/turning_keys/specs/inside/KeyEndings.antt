@@ -10,11 +10,11 @@ use Rattle.depth_search.specs.declared.kind.CaseNode.{CaseNode}
 use Rattle.cup_sheet.specs.declared.question.GroupReason.{GroupReason}
 use Rattle.cup_sheet.specs.CupLimits.{direct_places}
 use Rattle.cup_sheet.specs.KeyBounds.{far_key, CanBeCandidateWith, IsTurningKey, IsAskedOfClub}
-use Rattle.group_search.specs.declared.question.KindQuestion.{KindQuestion}
+use Rattle.cup_groups.specs.declared.question.KindQuestion.{KindQuestion}
 use Rattle.group_search.specs.inside.GroupLooks.{IsGroupExampleOf}
 use Rattle.group_search.specs.inside.GroupTasks.{IsGroupRefutedBy, IsGroupSpentOn}
-use Rattle.group_search.specs.inside.KindQuestions.{group_question_of}
-use Rattle.turning_keys.specs.inside.TurningQuestions.{halving_question, outer_question}
+use Rattle.cup_groups.specs.inside.KindQuestions.{group_question_of}
+use Rattle.turning_keys.specs.inside.TurningQuestions.{halving_question, nearer_question}
 use Rattle.turning_keys.specs.declared.turning.KeyEnd.{KeyEnd}
 use Rattle.turning_keys.specs.declared.turning.KeyEnd.TheVariants.{Found, Spent}
 
@@ -34,7 +34,7 @@ pub record IsFoundKey (sheet : Sheet) (season : Results) (claim : Claim) (club :
     : Type 0 where
   pub turning : IsTurningKey direct_places sheet season claim club key
   pub shown : IsExampleAt sheet season claim club key example
-  pub refuted : IsGroupRefutedBy sheet season (outer_question claim club key) sheet.budget nodes
+  pub refuted : IsGroupRefutedBy sheet season (nearer_question claim club key) sheet.budget nodes
 
 -- a question on the way to the turning key, and a tree on which the budget was spent
 pub record IsSpentKey (sheet : Sheet) (season : Results) (claim : Claim) (club : ℕ)

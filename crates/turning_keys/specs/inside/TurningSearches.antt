@@ -1,4 +1,4 @@
--- What a search for a turning key knows on the way. All of it is about each outermost key: that
+-- What a search for a turning key knows on the way. All of it is about each nearest key: that
 -- there is but one is not needed.
 use Rattle.std.specs.Prelude.{◌≡◌, ℕ, ◌+◌, ◌<◌, ℤ, ◌-ℤ◌, ◌≤ℤ◌, nat_abs, IsTrue, List, [], ◌∷◌, ◌++◌}
 use Rattle.std.specs.Prelude.{length}
@@ -14,9 +14,9 @@ use Rattle.league_core.specs.search.PointRanges.{Range}
 use Rattle.tree_arena.specs.declared.example.Example.{Example}
 use Rattle.cup_sheet.specs.CupLimits.{direct_places}
 use Rattle.cup_sheet.specs.KeyBounds.{far_part, IsHalvedTo}
-use Rattle.cup_sheet.specs.KeyBounds.{IsHalfwayKey, IsOutermostKey, IsBeyond, CanBeCandidateWith}
+use Rattle.cup_sheet.specs.KeyBounds.{IsHalfwayKey, IsNearestKey, IsBeyond, CanBeCandidateWith}
 use Rattle.club_keys.specs.inside.KeyEnds.{key_parts}
-use Rattle.group_search.specs.inside.KindQuestions.{group_question_of}
+use Rattle.cup_groups.specs.inside.KindQuestions.{group_question_of}
 use Rattle.group_search.specs.inside.GroupTasks.{IsGroupSpentOn}
 use Rattle.turning_keys.specs.inside.TurningQuestions.{halving_question}
 use Rattle.turning_keys.specs.declared.part_range.PartRange.{PartRange}
@@ -36,9 +36,9 @@ abbrev pub range_spanned : PartRange → Range
 range_spanned range = record { least = range.least; greatest = range.greatest }
 
 -- the end on the far side: no number of the range is farther out
-abbrev pub outer_end : Claim → Range → ℤ
-outer_end Outside range = range.greatest
-outer_end Inside range = range.least
+abbrev pub far_end : Claim → Range → ℤ
+far_end Outside range = range.greatest
+far_end Inside range = range.least
 
 -- how many numbers a range has but one
 abbrev pub numbers_past : Range → ℕ
@@ -71,22 +71,22 @@ pub record IsPartLeft (sheet : Sheet) (season : Results) (claim : Claim) (club :
   pub greatest : part ≤ℤ whole.greatest
   pub halved : IsHalvedTo claim part whole range
 
--- for each outermost key
+-- for each nearest key
 abbrev pub IsKnownTo : Sheet → Results → Claim → ℕ → ℕ → List ℤ → Type 0
 IsKnownTo sheet season claim club place key =
-    (turning : List ℤ) → IsOutermostKey direct_places sheet season claim club turning
+    (turning : List ℤ) → IsNearestKey direct_places sheet season claim club turning
     → AreKnownParts claim turning place key
 
--- for each outermost key
+-- for each nearest key
 abbrev pub IsLeftTo : Sheet → Results → Claim → ℕ → ℕ → List ℤ → Range → Type 0
 IsLeftTo sheet season claim club place key range =
-    (turning : List ℤ) → IsOutermostKey direct_places sheet season claim club turning
+    (turning : List ℤ) → IsNearestKey direct_places sheet season claim club turning
     → IsPartLeft sheet season claim club turning place key range
 
--- a key that each outermost key has halfway
+-- a key that each nearest key has halfway
 abbrev pub IsHalfwayTo : Sheet → Results → Claim → ℕ → List ℤ → Type 0
 IsHalfwayTo sheet season claim club key =
-    (turning : List ℤ) → IsOutermostKey direct_places sheet season claim club turning
+    (turning : List ℤ) → IsNearestKey direct_places sheet season claim club turning
     → IsHalfwayKey sheet season claim club turning key
 
 -- ---- what is found
@@ -121,7 +121,7 @@ IsKeySettled sheet season claim club key old new Far =
 IsKeySettled sheet season claim club key old new (Spent nodes) =
     IsGroupSpentOn sheet season (halving_question claim club key) sheet.budget nodes.items
 
--- the budget was spent on a question about a key that each outermost key has halfway
+-- the budget was spent on a question about a key that each nearest key has halfway
 pub record IsSpentHalfway (sheet : Sheet) (season : Results) (claim : Claim) (club : ℕ)
     (spent : SpentOn) : Type 0 where
   pub key : List ℤ
@@ -139,14 +139,14 @@ pub record IsReachedTo (sheet : Sheet) (season : Results) (claim : Claim) (club 
   pub near : IsReachedWithin sheet season claim club (key_parts reached.key) reached.example
 
 -- the next part lies in a range on the way, and the example's key is no farther out than the key
--- with the range's outer end there
+-- with the range's far end there
 pub record IsHalving (sheet : Sheet) (season : Results) (claim : Claim) (club : ℕ)
     (reached : Reached) (range : Range) : Type 0 where
   pub room : reached.known < 7
   pub in_order : range.least ≤ℤ range.greatest
   pub left : IsLeftTo sheet season claim club reached.known (key_parts reached.key) range
   pub near : IsReachedWithin sheet season claim club
-      (slice_set (key_parts reached.key) reached.known (outer_end claim range)) reached.example
+      (slice_set (key_parts reached.key) reached.known (far_end claim range)) reached.example
 
 -- what a step of halving leaves
 abbrev pub IsHalved : Sheet → Results → Claim → ℕ → Range → Reached → Reached → Halved → Type 0

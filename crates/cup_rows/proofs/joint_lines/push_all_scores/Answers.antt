@@ -1,7 +1,7 @@
 use Rattle.std.proofs.Common.{◌++◌, length, ap, sym, ◌∙◌, arith}
 use Rattle.league_core.specs.game.Results.{Results}
 use Rattle.tree_arena.specs.declared.example.Example.{Example}
-use Rattle.cup_rows.specs.JointLines.{group_scores_from}
+use Rattle.cup_text.specs.CupItems.{group_scores_from}
 use Rattle.cup_rows.proofs.JointLineLemmas.{ends_as_many, ends_alike_at, joint_room, together-next}
 use Rattle.cup_rows.proofs.JointLineLemmas.{joint_scores-step, joint_all}
 use Rattle.cup_rows.proofs.joint_lines.push_all_scores.Goals as goal

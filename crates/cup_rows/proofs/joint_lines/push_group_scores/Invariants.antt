@@ -1,5 +1,5 @@
 use Rattle.std.proofs.Common.{◌≡◌, ◌++◌, take}
-use Rattle.cup_rows.specs.JointLines.{group_scores_from}
+use Rattle.cup_text.specs.CupItems.{group_scores_from}
 use Rattle.cup_rows.proofs.joint_lines.push_group_scores.Given as goal
 
 -- the lines of the fixtures so far come after those before

@@ -1,5 +1,5 @@
 use Rattle.std.proofs.Common.{sym, subst}
-use Rattle.cup_rows.specs.JointLines.{AreEndsAlike}
+use Rattle.cup_rows.specs.inside.JointLines.{AreEndsAlike}
 use Rattle.cup_rows.proofs.JointLineLemmas.{finishes_alike, few_cup_scores}
 use Rattle.cup_rows.proofs.joint_lines.push_joint.Goals as goal
 

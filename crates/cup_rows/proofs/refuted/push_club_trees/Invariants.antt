@@ -1,5 +1,5 @@
 use Rattle.std.proofs.Common.{◌≡◌, ◌++◌, take}
-use Rattle.cup_rows.specs.VerdictLines.{club_trees_from}
+use Rattle.cup_rows.specs.inside.VerdictLines.{club_trees_from}
 use Rattle.cup_rows.proofs.refuted.push_club_trees.Given as goal
 
 -- the lines of the clubs so far

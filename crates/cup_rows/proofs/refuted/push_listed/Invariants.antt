@@ -1,6 +1,6 @@
 use Rattle.std.proofs.Common.{◌≡◌, ◌++◌, take}
 use Rattle.std.specs.List.{flat_map}
-use Rattle.cup_rows.specs.VerdictLines.{listed_group_lines}
+use Rattle.cup_rows.specs.inside.VerdictLines.{listed_group_lines}
 use Rattle.cup_rows.proofs.refuted.push_listed.Given as goal
 
 -- the lines of the groups so far

@@ -1,5 +1,5 @@
 use Rattle.std.proofs.Common.{◌≡◌, ◌++◌, take}
-use Rattle.cup_rows.specs.GroupTreeLines.{group_tree_lines}
+use Rattle.cup_rows.specs.inside.GroupTreeLines.{group_tree_lines}
 use Rattle.cup_rows.proofs.tree_lines.push_refutation.Given as goal
 
 -- the lines of the nodes so far stand under the head

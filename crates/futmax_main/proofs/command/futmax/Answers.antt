@@ -1,8 +1,8 @@
-use Rattle.std.proofs.Common.{◌≡◌, ◌∙◌, Option, Some, ap, map, string_bytes, subst, sym, rules}
+use Rattle.std.proofs.Common.{◌≡◌, Option, Some, map, string_bytes, subst, sym, rules}
 use Rattle.command_words.specs.declared.command.Mode.{Mode}
 use Rattle.command_words.specs.Commands.{mode_of}
 use Rattle.futmax_main.specs.Modes.{IsSettledAs}
-use Rattle.session_turns.proofs.LastReadLemmas.{stops-unread}
+use Rattle.futmax_main.proofs.ModeLemmas.{stops-unread}
 use Rattle.futmax_main.proofs.ModeLemmas.{mode-settled, only_checks, serves_as-no_memory}
 use Rattle.futmax_main.proofs.ModeLemmas.{settled_as-no_memory}
 use Rattle.futmax_main.proofs.command.futmax.Goals as goal
@@ -22,7 +22,7 @@ returns-in-Ok-Some-clause-unproved g c = λ unproved.
     search rules in
     let found = only_checks c.in-Ok-Some.field-0-0.mode c.run_mode.result
     c.run_mode.ensures.status unproved in
-    (found.0, is ∙ ap (λ (mode : Mode). Some mode) found.1)
+    (c.in-Ok-Some.field-0-0.mode, found, is)
 
 pub returns-clause-serves : goal.returns-clause-serves
 returns-clause-serves g c = serves_as-no_memory _ _ _ _ _

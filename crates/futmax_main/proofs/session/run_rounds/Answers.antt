@@ -1,10 +1,13 @@
 use Rattle.std.proofs.Common.{sym, ◌∙◌}
-use Rattle.session_turns.proofs.RoundLemmas.{turn-starved}
 use Rattle.futmax_main.proofs.session.run_rounds.Goals as goal
+use Rattle.run_ends.proofs.RunRoundLemmas.{turn-starved}
+use Rattle.session_turns.proofs.AnsweredLemmas.{session-answered}
+use Rattle.session_turns.specs.Texts.{session_kind}
 
 pub returns-in_default-clause-serves : goal.returns-in_default-clause-serves
 returns-in_default-clause-serves g c = λ input ended old path.
-    turn-starved c.args.setup.now.mode input ended _ _ _ _ _ _ old _ path.2
+    turn-starved (session_kind c.args.setup.now.mode)
+    (session-answered c.args.setup.now.mode) input ended _ _ _ _ _ _ old _ path.2
 
 pub returns-in_default-clause-last : goal.returns-in_default-clause-last
 returns-in_default-clause-last g c = λ first come. (c.args.reader.now, come.2.last)

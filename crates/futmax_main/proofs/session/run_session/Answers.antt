@@ -1,10 +1,13 @@
 use Rattle.std.proofs.Common.{inl, refl}
-use Rattle.session_turns.specs.LastReads.{fresh_reader}
-use Rattle.session_turns.proofs.TurnLemmas.{serves-nothing}
 use Rattle.futmax_main.proofs.session.run_session.Goals as goal
+use Rattle.run_ends.proofs.RunEndLemmas.{serves-nothing}
+use Rattle.run_ends.specs.LastReads.{fresh_reader}
+use Rattle.session_turns.proofs.AnsweredLemmas.{session-answered}
+use Rattle.session_turns.specs.Texts.{session_kind}
 
 pub returns-in_default-clause-serves : goal.returns-in_default-clause-serves
-returns-in_default-clause-serves g c = serves-nothing c.args.setup.now.mode _ _ _ _
+returns-in_default-clause-serves g c = serves-nothing (session_kind c.args.setup.now.mode)
+    (session-answered c.args.setup.now.mode) _ _ _ _
 
 pub returns-in_default-clause-last : goal.returns-in_default-clause-last
 returns-in_default-clause-last g c = (fresh_reader, inl (refl, refl))

@@ -1,8 +1,10 @@
 use Rattle.run_ends.specs.declared.status.Status.TheVariants.{OutOfMemory}
-use Rattle.session_turns.proofs.RoundLemmas.{turn-starved}
 use Rattle.session_turns.proofs.CloseLemmas.{close-counts, close-gives, close-goes_on, close-last}
 use Rattle.session_turns.proofs.CloseLemmas.{starved-last}
 use Rattle.futmax_main.proofs.session.take_round.Goals as goal
+use Rattle.run_ends.proofs.RunRoundLemmas.{turn-starved}
+use Rattle.session_turns.proofs.AnsweredLemmas.{session-answered}
+use Rattle.session_turns.specs.Texts.{session_kind}
 
 pub returns-in-Ok-clause-way : goal.returns-in-Ok-clause-way
 returns-in-Ok-clause-way g c = λ input ended old path.
@@ -34,7 +36,8 @@ returns-in-Ok-clause-counts g c =
 
 pub returns-in-Err-clause-way : goal.returns-in-Err-clause-way
 returns-in-Err-clause-way g c = λ input ended old path.
-    turn-starved c.args.setup.now.mode input ended _ _ _ _ _ _ old _ path.2
+    turn-starved (session_kind c.args.setup.now.mode)
+    (session-answered c.args.setup.now.mode) input ended _ _ _ _ _ _ old _ path.2
 
 pub returns-in-Err-clause-last : goal.returns-in-Err-clause-last
 returns-in-Err-clause-last g c = λ first come.

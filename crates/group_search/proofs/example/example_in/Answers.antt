@@ -2,7 +2,7 @@ use Rattle.std.proofs.Common.{◌≡◌, true, false, sym, ◌∙◌, subst}
 use Rattle.league_core.specs.declared.question.Question.{Question}
 use Rattle.league_core.specs.game.Sheets.{IsWithinLimits}
 use Rattle.branch_rules.specs.inside.Found.{is_proposed_example}
-use Rattle.group_search.specs.inside.KindQuestions.{group_question_of}
+use Rattle.cup_groups.specs.inside.KindQuestions.{group_question_of}
 use Rattle.group_search.proofs.GroupExampleLemmas.{vain_by_place}
 use Rattle.group_search.proofs.example.example_in.Goals as goal
 

@@ -9,7 +9,7 @@ use Rattle.league_core.proofs.ProposalLemmas.{proposed_is_finish}
 use Rattle.club_keys.specs.inside.KeyEnds.{key_parts}
 use Rattle.cup_sheet.specs.CupLimits.{direct_places}
 use Rattle.cup_sheet.specs.GroupQuestions.{is_key_on_side}
-use Rattle.group_search.specs.inside.KindQuestions.{group_question_of}
+use Rattle.cup_groups.specs.inside.KindQuestions.{group_question_of}
 use Rattle.group_search.proofs.GroupExampleLemmas.{candidate_example, proposed_league}
 use Rattle.group_search.proofs.GroupExampleLemmas.{vain_by_lots}
 use Rattle.group_search.proofs.example.example_of_candidate.Goals as goal

@@ -6,7 +6,7 @@ use Rattle.league_core.specs.inside.LotsFor.{lots_for_claim}
 use Rattle.branch_rules.proofs.FoundLemmas.{proposed_example}
 use Rattle.cup_sheet.specs.CupLimits.{direct_places}
 use Rattle.cup_sheet.specs.GroupQuestions.{place_question}
-use Rattle.group_search.specs.inside.KindQuestions.{group_question_of}
+use Rattle.cup_groups.specs.inside.KindQuestions.{group_question_of}
 use Rattle.group_search.proofs.GroupExampleLemmas.{place_is_group_example, place_question-club}
 use Rattle.group_search.proofs.example.example_of_place.Goals as goal
 

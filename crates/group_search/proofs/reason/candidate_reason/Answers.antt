@@ -3,7 +3,7 @@ use Rattle.league_core.specs.declared.question.Question.{Question}
 use Rattle.league_core.specs.search.Reasons.{has_reason}
 use Rattle.cup_sheet.specs.CupLimits.{direct_places}
 use Rattle.cup_sheet.specs.GroupQuestions.{is_key_refuted}
-use Rattle.group_search.specs.inside.KindQuestions.{group_question_of}
+use Rattle.cup_groups.specs.inside.KindQuestions.{group_question_of}
 use Rattle.group_search.proofs.GroupReasonLemmas.{key_holds, in_holds, out_holds}
 use Rattle.group_search.proofs.GroupReasonLemmas.{no_candidate_reason}
 use Rattle.group_search.proofs.reason.candidate_reason.Goals as goal

@@ -2,7 +2,7 @@ use Rattle.std.proofs.Common.{◌≡◌, true, false, subst}
 use Rattle.league_core.specs.declared.question.Question.{Question}
 use Rattle.league_core.specs.search.Reasons.{has_reason}
 use Rattle.cup_sheet.specs.CupLimits.{direct_places}
-use Rattle.group_search.specs.inside.KindQuestions.{group_question_of}
+use Rattle.cup_groups.specs.inside.KindQuestions.{group_question_of}
 use Rattle.group_search.proofs.GroupReasonLemmas.{plain_holds, no_place_reason}
 use Rattle.group_search.proofs.reason.place_reason.Goals as goal
 

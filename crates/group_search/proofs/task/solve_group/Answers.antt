@@ -1,4 +1,4 @@
-use Rattle.group_search.specs.inside.KindQuestions.{group_question_of}
+use Rattle.cup_groups.specs.inside.KindQuestions.{group_question_of}
 use Rattle.group_search.proofs.GroupLookLemmas.{group_look_at_root}
 use Rattle.group_search.proofs.task.solve_group.Goals as goal
 

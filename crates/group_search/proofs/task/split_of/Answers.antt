@@ -2,7 +2,7 @@ use Rattle.std.proofs.Common.{subst}
 use Rattle.league_core.specs.declared.question.Question.{Question}
 use Rattle.league_core.specs.game.Seasons.{IsSeasonOf}
 use Rattle.branch_rules.specs.inside.Choices.{IsDueSplit}
-use Rattle.group_search.specs.inside.KindQuestions.{group_question_of}
+use Rattle.cup_groups.specs.inside.KindQuestions.{group_question_of}
 use Rattle.group_search.proofs.GroupLookLemmas.{group_has_several, group_split_is_fair}
 use Rattle.group_search.proofs.task.split_of.Goals as goal
 

@@ -1,6 +1,6 @@
 use Rattle.std.proofs.Common.{◌≡◌, ◌∙◌, List, length, ap, arith}
 use Rattle.tree_arena.specs.declared.example.Example.{Example}
-use Rattle.runners_up.specs.inside.ClubSeats.{seat_block}
+use Rattle.cup_groups.specs.inside.ClubSeats.{seat_block}
 use Rattle.runners_up.specs.inside.JointEnds.{lots_from, joint_lots}
 use Rattle.runners_up.proofs.JointCodeLemmas.{few_lots_in_all, joint_drawn, joint_shows}
 use Rattle.runners_up.proofs.joint.joint_finish.Goals as goal

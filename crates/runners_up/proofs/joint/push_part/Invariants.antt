@@ -1,5 +1,5 @@
 use Rattle.std.proofs.Common.{◌≡◌, ◌++◌, filter, take}
-use Rattle.runners_up.specs.inside.ClubSeats.{seat_block}
+use Rattle.cup_groups.specs.inside.ClubSeats.{seat_block}
 use Rattle.runners_up.specs.inside.JointEnds.{is_in_turn}
 use Rattle.runners_up.proofs.joint.push_part.Given as goal
 

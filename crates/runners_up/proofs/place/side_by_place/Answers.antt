@@ -7,7 +7,7 @@ use Rattle.cup_sheet.specs.declared.question.GroupReason.{GroupReason}
 use Rattle.cup_sheet.specs.GroupQuestions.{GroupQuestion}
 use Rattle.group_search.specs.inside.GroupLooks.{IsGroupExampleOf}
 use Rattle.group_search.specs.inside.GroupTasks.{IsGroupSolved, IsGroupRefutedBy, IsGroupSpentOn}
-use Rattle.group_search.specs.inside.KindQuestions.{group_question_of}
+use Rattle.cup_groups.specs.inside.KindQuestions.{group_question_of}
 use Rattle.runners_up.proofs.AnyEndLemmas.{seasons_count, each_league}
 use Rattle.runners_up.proofs.SideByPlaceLemmas.{own_group, own_inside}
 use Rattle.runners_up.proofs.place.side_by_place.Goals as goal

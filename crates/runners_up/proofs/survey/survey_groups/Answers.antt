@@ -1,5 +1,5 @@
 use Rattle.std.proofs.Common.{◌≡◌, ◌<◌, ◌+◌, ◌∙◌, List, length, sym, ap, arith, slice_index_or}
-use Rattle.std.proofs.Common.{subst}
+use Rattle.std.proofs.Common.{subst, inl, inr}
 use Rattle.league_core.specs.declared.sheet.Sheet.{Sheet}
 use Rattle.league_core.proofs.plain.Slots.{found_at}
 use Rattle.club_keys.specs.inside.KeyEnds.{key_parts}
@@ -75,3 +75,22 @@ loop-group-preserved c =
           sought.claim key sought.mine c.args.ends.items k c.loop-group.survey
           w.if-group-sought.false c.loop-group.invariant)
     ]
+
+pub returns-then-has_enough : goal.returns-then-has_enough
+returns-then-has_enough c = record {
+  count = c.loop-group.group;
+  asked = c.loop-group.invariant;
+  over = inr (c.has_enough.ensures.0 c.if-has_enough.true);
+}
+
+pub returns : goal.returns
+returns c = record {
+  count = c.loop-group.group;
+  asked = c.loop-group.invariant;
+  over = inl (omega (
+    arith,
+    c.loop-group.auto.group-end,
+    c.loop-group-test.false,
+    ap length c.as_slice-groups.ensures,
+  ));
+}

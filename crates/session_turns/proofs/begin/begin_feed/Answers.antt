@@ -2,12 +2,15 @@
 use Rattle.std.proofs.Common.{sym, ◌∙◌}
 use Rattle.session_turns.proofs.OpeningLemmas.{begun-gives, begun-stops, live-opened, opened-gives}
 use Rattle.session_turns.proofs.OpeningLemmas.{opened-live, opened-stops}
-use Rattle.session_turns.proofs.RoundLemmas.{turn-starved}
 use Rattle.session_turns.proofs.begin.begin_feed.Goals as goal
+use Rattle.run_ends.proofs.RunRoundLemmas.{turn-starved}
+use Rattle.session_turns.proofs.AnsweredLemmas.{session-answered}
+use Rattle.session_turns.specs.Texts.{session_kind}
 
 pub returns-in_default-clause-way : goal.returns-in_default-clause-way
 returns-in_default-clause-way g c = λ input ended old path.
-    turn-starved c.args.mode input ended _ _ _ _ _ _ old _ path
+    turn-starved (session_kind c.args.mode) (session-answered c.args.mode) input ended _ _ _ _ _ _
+    old _ path
 
 pub returns-in_default-clause-last : goal.returns-in_default-clause-last
 returns-in_default-clause-last g c = λ first come. (c.args.reader.now, come.last)

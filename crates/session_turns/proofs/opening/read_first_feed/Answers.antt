@@ -10,7 +10,6 @@ use Rattle.plain_rounds.proofs.FeedingLemmas.{as-rounds}
 use Rattle.command_words.specs.declared.command.Mode.TheVariants.{Resume}
 use Rattle.session_turns.specs.Courses.{course_from, course_from_saved, first_origin}
 use Rattle.pool_save.specs.SavedReadings.{nothing_saved}
-use Rattle.session_turns.specs.inside.Progress.{Path}
 use Rattle.session_turns.specs.inside.TurnReads.{HasComeTo, HasComeToSaved}
 use Rattle.session_turns.proofs.HaltLemmas.{round-live}
 use Rattle.session_turns.proofs.LastReadLemmas.{feed-stops, round-come, round-stops}
@@ -20,6 +19,8 @@ use Rattle.session_turns.proofs.OpeningLemmas.{opening-proofs, opening-starved, 
 use Rattle.session_turns.proofs.OpeningLemmas.{proofs-come, stopped-as, told-as}
 use Rattle.session_turns.proofs.OriginLemmas.{reports-unworked}
 use Rattle.session_turns.proofs.opening.read_first_feed.Goals as goal
+use Rattle.run_ends.specs.inside.Ways.{Path}
+use Rattle.session_turns.specs.Texts.{session_kind}
 
 pub returns-in_default-clause-way : goal.returns-in_default-clause-way
 returns-in_default-clause-way g c = λ proofs input ended old now path.
@@ -64,7 +65,7 @@ rounds-preserved g c =
           c.in-Ok.ensures.season c.in-Ok.ensures.home c.in-Ok.ensures.reported;
       unworked = reports-unworked c.rounds.live next c.in-Ok.ensures.reported before.unworked;
       way = λ proofs input ended old now path.
-          let P : Sheet → Type 0 = λ s. Path (Resume proofs) input ended
+          let P : Sheet → Type 0 = λ s. Path (session_kind (Resume proofs)) input ended
           (stream_of to.reader to.left) to.ended to.reader.position
           (course_from (Resume proofs) (first_origin s) next.log) old now in
           subst P (sym same) (opening-ask proofs input ended c.rounds.live.sheet c.rounds.live.log
@@ -89,7 +90,8 @@ returns-in-Ok-Proofs-clause-way g c = λ proofs input ended old now path.
     c.in-Ok.round.pool.log from to close) c.rounds.live.sheet (Ok Proofs) c.in-Ok.round.last
     (told-as c.in-Ok.round.last c.in-Ok-Proofs.field-0 Proofs c.in-Ok-Proofs.is
     (rw c.in-Ok-Proofs.is at c.in-Ok-Proofs.field-0-is)) c.in-Ok.ensures.ends in
-    let P : Sheet → Type 0 = λ s. Path (Resume proofs) input ended (stream_of to.reader to.left)
+    let P : Sheet → Type 0 = λ s. Path (session_kind (Resume proofs)) input ended (stream_of
+    to.reader to.left)
     to.ended to.reader.position
     (course_from_saved (Resume proofs) s c.in-Ok.round.pool.log nothing_saved) old now in
     subst P (sym c.in-Ok.ensures.sheet) (opening-proofs proofs input ended c.rounds.live.sheet

@@ -7,4 +7,4 @@ unreachable-requires c =
     let found = rw c.in-Won.is at c.in_ok-solve_group.ensures in
     none_before c.args.sheet.now c.args.season.now c.args.sought.club c.args.sought.claim
     (key_parts c.args.key) c.in-Won.field-0 c.requires.turning
-    (rw c.outer-question.ensures.question at found)
+    (rw c.nearer-question.ensures.question at found)

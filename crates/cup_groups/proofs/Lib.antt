@@ -1,0 +1,2 @@
+-- How many clubs and fixtures are before a group, and where it starts.
+pub mod StartLemmas
