@@ -10,7 +10,7 @@ from dataclasses import dataclass
 from cup_reference import Cup, qualified, record_of, take
 from reference import League, Sums, blocks_of, points_of
 from report_reader import CLAIMS, Question, Report, Stop, from_zero, holds, is_reason, is_test, \
-    is_within, options
+    is_within, options, row_of
 
 WORDS = ("clinched", "lost", "possible", "unsettled")
 # the claim and the line of a question about a place alone
@@ -270,16 +270,4 @@ def judged(text: str, known: dict | None = None) -> str:
     """The row that a whole input comes to, whose sheet and feed are taken as they stand."""
     asks, report, number = parts_of(text)
     found = CupReport(report or [], number + 1, known)
-    try:
-        if report is None:
-            raise Stop(number + 1, "short")
-        for cup in asks:
-            found.cup_answer(cup)
-        try:
-            raise Stop(found.next()[0], "bad_line")
-        except Stop as stop:
-            if stop.code != "short":
-                raise
-    except Stop as stop:
-        return f"refused,{stop.number},{stop.code}"
-    return f"accepted,{found.rows},{found.unsettled}"
+    return ",".join(row_of(found, found.cup_answer, None if report is None else asks, number + 1))

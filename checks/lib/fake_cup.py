@@ -1,6 +1,6 @@
 #!/usr/bin/env python3
 """A program in place of futmax that answers cups: by trying every finish. It answers each `ask` at
-once. With a budget of 1 what is possible is unsettled.
+once; its `groups_check` accepts what it is given. With a budget of 1 what is possible is unsettled.
 """
 
 import csv
@@ -40,9 +40,19 @@ def answer_of(cup: Cup, has_proofs: bool) -> list[str]:
                        for line in [row, *lines_below(cup, every, ends, number, word, has_proofs)]]
 
 
+def checked(lines: list[str]) -> str:
+    """The row on a report, which is believed."""
+    at = lines.index("proofs\n")
+    rows = [line for line in lines[at:] if line.startswith("verdict,")]
+    return f"accepted,{len(rows)},{sum('unsettled' in row for row in rows)}"
+
+
 def main() -> int:
     """Answers as the words say."""
     mode, *words = sys.argv[1:] or [""]
+    if mode == "groups_check":
+        print(checked(list(sys.stdin)))
+        return 0
     if mode not in ("groups", "table"):
         print("usage,futmax MODE [--workers N] [--proofs] [--seed N]")
         return 1

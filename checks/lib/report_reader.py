@@ -383,11 +383,17 @@ def judged(text: str) -> list[str]:
         elif record[0] != "season" and take(league, record):
             asks.append(copy.deepcopy(league))
     found = Report(report, number + 1)
+    return row_of(found, found.answer, asks if is_report else None, number + 1)
+
+
+def row_of(found: Report, answer, asks: list | None, end: int) -> list[str]:
+    """The row that a report comes to: an answer to each ask, and nothing that counts behind the
+    last; short at the input's end if no record `proofs` came."""
     try:
-        if not is_report:
-            raise Stop(number + 1, "short")
+        if asks is None:
+            raise Stop(end, "short")
         for ask in asks:
-            found.answer(ask)
+            answer(ask)
         try:
             raise Stop(found.next()[0], "bad_line")
         except Stop as stop:

@@ -8,6 +8,7 @@ complete -c futmax -f -n __fish_use_subcommand -a scores -d 'how many points are
 complete -c futmax -f -n __fish_use_subcommand -a check -d 'whether a report proves what it says'
 complete -c futmax -f -n __fish_use_subcommand -a decide_check -d 'check a report that decide --proofs wrote'
 complete -c futmax -f -n __fish_use_subcommand -a groups -d 'of a cup: who qualifies from its groups, runners-up among them'
+complete -c futmax -f -n __fish_use_subcommand -a groups_check -d 'check a report that groups --proofs wrote'
 complete -c futmax -f -n __fish_use_subcommand -a save -d 'work on every question, and write the trees as a saved text'
 complete -c futmax -f -n __fish_use_subcommand -a resume -d 'go on from a saved text: verdicts of a further feed'
 complete -c futmax -f -n __fish_use_subcommand -a sample -d 'make a league from a number, and count its verdicts'

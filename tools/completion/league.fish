@@ -149,4 +149,4 @@ complete -c league -n '__fish_seen_subcommand_from lint' -s h -l help -d 'show t
 complete -c league -n '__fish_seen_subcommand_from lint' -l version -d 'print the version and exit'
 complete -c league -n '__fish_seen_subcommand_from lint' -l quiet -d 'say nothing if nothing is wrong'
 complete -c league -n '__fish_seen_subcommand_from lint' -l sheet-only -d 'the files hold a sheet alone'
-complete -c league -n '__fish_seen_subcommand_from lint' -l mode -x -a 'verdicts decide whatif table scores check decide_check save resume groups' -d 'the mode in which futmax is to be run (verdicts'
+complete -c league -n '__fish_seen_subcommand_from lint' -l mode -x -a 'verdicts decide whatif table scores check decide_check save resume groups groups_check' -d 'the mode in which futmax is to be run (verdicts'

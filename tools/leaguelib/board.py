@@ -180,7 +180,7 @@ def _add_reasons(board: Board, path: str, front: bytes, league: Input, now: Aske
             missing.add(verdict.places)
     for lines in line_runs(sorted(missing)) if missing else []:
         told = own_report(path, with_budget(with_lines_of(front, lines), now.budget), league)
-        for verdict in told.report.answers[-1].verdicts if told.is_told else []:
+        for verdict in told.report.answers[-1].verdicts if told.is_checked else []:
             mark = (verdict.places, verdict.club)
             if verdict.proofs and board.verdicts[mark].word == verdict.word:
                 board.proved[mark] = verdict

@@ -12,6 +12,7 @@ from pathlib import Path
 
 from . import common
 from .asking import futmax_statuses, run_mode
+from .cups import begins_a_cup
 from .files import Joined
 from .given import Given, add_file_arguments, ended, given_of, read_all
 from .modes import DECIDE_CHECK, known_mode
@@ -61,12 +62,13 @@ def run(arguments: argparse.Namespace) -> int:
 
 
 def is_second_agreed(given: Given, done: Run, takes_near: bool) -> bool:
-    """Whether the second checker, which shares nothing with futmax, was asked and says the same.
+    """Whether the second checker, which shares nothing with futmax, was asked and says the same;
+    it takes no cups.
 
     It takes near leaves where the mode of futmax does.
     """
     path = Path(__file__).resolve().parents[1] / "second_checker"
-    if not path.is_file() or done.status not in (0, 2, 3, 7, 8):
+    if not path.is_file() or done.status not in (0, 2, 3, 7, 8) or begins_a_cup(given.data):
         return False
     words = [sys.executable, str(path)] + ["--near"] * takes_near
     second = subprocess.run(words, input=given.data, stdout=subprocess.PIPE,
@@ -84,7 +86,7 @@ def is_second_agreed(given: Given, done: Run, takes_near: bool) -> bool:
 def given_report(paths: list[str]) -> Given:
     """The input of a check: as it stands, or put together of the files before the report and it."""
     files = read_all(paths)
-    whole = given_of(files, adds_ask=False)
+    whole = given_of(files, adds_ask=False, takes_cup=True)
     if whole.report_line:
         return whole
     if len(files) < 2:
@@ -95,7 +97,7 @@ def given_report(paths: list[str]) -> Given:
         raise common.Trouble(f"there is no report: {name}, the last file, is a {kind_of(report)}. "
                              "Name the report after sheet and feed, as in `league check SHEET FEED "
                              "REPORT`.", common.BAD_WORDS)
-    front = given_of(files[:-1], adds_ask=bool(report.strip()))
+    front = given_of(files[:-1], adds_ask=bool(report.strip()), takes_cup=True)
     data = ended(front.data)
     first = data.count(b"\n") + 2
     count = report.count(b"\n") + (bool(report) and not report.endswith(b"\n"))

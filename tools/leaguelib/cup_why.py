@@ -1,5 +1,5 @@
-"""Why a club of a cup is in, out or open: of decided ones the key and the groups of the program's
-proof, which nothing checks; of open ones an end each way, group by group.
+"""Why a club of a cup is in, out or open: of decided ones the key and the groups of a proof that
+the program's check accepted, of open ones an end each way, group by group.
 """
 
 from __future__ import annotations
@@ -29,8 +29,8 @@ ORDINALS = {1: "first", 2: "second", 3: "third", 4: "fourth", 5: "fifth", 6: "si
 
 @dataclass
 class CupWhy:
-    """What the reasons of one ask of a cup need. `proof_of` gives a verdict with its proof, if one
-    may be told.
+    """What the reasons of one ask of a cup need. `proof_of` gives a verdict with its proof, where
+    the program's check accepted it.
     """
 
     path: str
@@ -57,8 +57,8 @@ class CupWhy:
             return [f"All matches are played. {self._final(verdict.club, season)}"]
         found = self.proof_of(verdict)
         if found is None:
-            return ["No proof of it is told here."]
-        return [self._proof(found) + " So the program's proof says, which was not checked."]
+            return ["No proof of it was checked here."]
+        return [self._proof(found) + " The program's check accepts the proof."]
 
     def _final(self, club: str, season: Season) -> str:
         """How a club ended, in the table of its group and among the runners-up."""
@@ -177,13 +177,13 @@ class CupWhy:
 
 
 def own_proofs(path: str, data: bytes, league: Input) -> Callable[[Verdict], Verdict | None]:
-    """Gives verdicts of the last ask with their proofs, as the program writes them."""
+    """Gives verdicts of the last ask with their proofs, as the program writes and accepts them."""
     told: list[Told] = []
 
     def proof_of(verdict: Verdict) -> Verdict | None:
         if not told:
             told.append(own_report(path, data, league))
-        return proved_row(told[0].report.answers[-1], verdict) if told[0].is_told else None
+        return proved_row(told[0].report.answers[-1], verdict) if told[0].is_checked else None
 
     return proof_of
 

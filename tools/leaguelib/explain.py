@@ -3,9 +3,8 @@
 --why gives the reasons: the shortest first, by points alone, by clubs that cannot pass, by matches
 between rivals, by clubs that can be level at the most; then the steps of the program's proof. The
 answer is the program's, or a report made elsewhere (--answer, or after the record `proofs` of the
-input). A proof is put into words only if the program's mode `check` has accepted its report; of a
-cup, whose reports no mode checks, only the program's own. A feed with `when` lines is told as
-`league tonight` tells an evening.
+input). A proof is put into words only if the program's mode `check` has accepted its report. A feed
+with `when` lines is told as `league tonight` tells an evening.
 """
 
 from __future__ import annotations
@@ -33,7 +32,7 @@ from .why import USUAL_STEPS, Why, why_text
 from .wording import listed, paragraph
 
 __all__ = ["add_arguments", "run", "own_report"]
-NO_CHECK = ("This report was not checked, since the program here has no mode that does: what "
+NO_CHECK = ("This report was not checked, since the program here has no mode `check`: what "
             "follows is what it says. Its proofs are left out.")
 
 

@@ -16,7 +16,7 @@ from .records import fields_of
 MOST_QUOTED = 80
 STANDARD_INPUT = "standard input"
 NO_CUP = ("this is the sheet of a cup, which this part does not take; `league ask`, `table`, "
-          "`explain`, `board`, `live`, `feed` and `lint` do.")
+          "`explain`, `board`, `live`, `check`, `feed` and `lint` do.")
 
 
 @dataclass

@@ -13,7 +13,7 @@ from .doubts import Doubt, feed_doubts, sheet_doubts
 from .feeds import Input, InputReader, read_input
 from .files import examine, joined
 from .findings import Finding, Outcome, capital, outcome_text
-from .modes import GROUPS
+from .modes import GROUPS, GROUPS_CHECK, OF_CUPS
 from .records import Record, Refused, count_lines, lines_of, record_of, records_of
 from .refusals import Advice, advise
 from .repairs import FEED_KINDS
@@ -23,8 +23,8 @@ from .texts import Entry
 from .words import SAVED_WORDS, words_for
 
 MODES = ("verdicts", "decide", "whatif", "table", "scores", "check", "decide_check", "save",
-         "resume", GROUPS)
-CHECKS = ("check", "decide_check")
+         "resume", GROUPS, GROUPS_CHECK)
+CHECKS = ("check", "decide_check", GROUPS_CHECK)
 FIRST_CODES = ("no_league", "no_cup")
 MOST_SHOWN = 30
 MOST_REFUSED = 10_000
@@ -90,7 +90,7 @@ def _meant_kind(data: bytes) -> str:
 def look(data: bytes, is_sheet_only: bool = False, mode: str | None = None) -> Outcome:
     """Looks at a whole input in UTF-8; in the mode `check` the report after `proofs` is not."""
     mode = mode_for(data, mode)
-    takes_proofs, is_cup = mode in CHECKS, mode == GROUPS
+    takes_proofs, is_cup = mode in CHECKS, mode in OF_CUPS.values()
     outcome = Outcome(refused=refusal_of(data, mode),
                       league_line=first_line(data, "cup" if is_cup else "league"))
     if mode == "resume":
@@ -137,7 +137,8 @@ def refusal_of(data: bytes, mode: str | None = None) -> Refused | None:
     """The line at which the program stops in a mode, if it does."""
     mode = mode_for(data, mode)
     try:
-        league = read_input(data, mode in (*CHECKS, "resume"), mode == "whatif", mode == GROUPS)
+        league = read_input(data, mode in (*CHECKS, "resume"), mode == "whatif",
+                            mode in OF_CUPS.values())
         if mode == "resume":
             bad = _bad_save(league, data)
             if bad:

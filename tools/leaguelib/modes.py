@@ -1,6 +1,6 @@
 """The modes of futmax that are asked for verdicts and to check a report: `decide` and
-`decide_check`, or the older `verdicts` and `check` where a program has not these; of cups `groups`,
-whose reports no mode checks.
+`decide_check`, or the older `verdicts` and `check` where a program has not these; of cups `groups`
+and `groups_check`.
 """
 
 from __future__ import annotations
@@ -11,9 +11,9 @@ from .running import run_program
 
 DECIDE, DECIDE_CHECK = "decide", "decide_check"
 OLDER = {DECIDE: "verdicts", DECIDE_CHECK: "check"}
-GROUPS = "groups"
-OF_CUPS = {DECIDE: GROUPS, "verdicts": GROUPS}
-ONE_THREAD = (DECIDE, DECIDE_CHECK, GROUPS)
+GROUPS, GROUPS_CHECK = "groups", "groups_check"
+OF_CUPS = {DECIDE: GROUPS, "verdicts": GROUPS, DECIDE_CHECK: GROUPS_CHECK, "check": GROUPS_CHECK}
+ONE_THREAD = (DECIDE, DECIDE_CHECK, GROUPS, GROUPS_CHECK)
 
 
 def known_mode(path: str, mode: str, is_cup: bool = False) -> str:

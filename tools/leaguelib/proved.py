@@ -1,4 +1,4 @@
-"""Reports with proofs, and whether the program's own check accepts them; it checks none of cups."""
+"""Reports with proofs, and whether the program's own check accepts them."""
 
 from __future__ import annotations
 
@@ -7,7 +7,6 @@ from dataclasses import dataclass
 from . import common
 from .answers import Answer, Report, Verdict
 from .asking import run_mode
-from .cups import begins_a_cup
 from .feeds import Input
 from .modes import DECIDE, DECIDE_CHECK
 from .running import report_of
@@ -19,12 +18,12 @@ class Told:
 
     league: Input
     report: Report
-    is_told: bool
+    is_checked: bool
     note: str = ""
 
 
 def own_report(program: str | None, data: bytes, league: Input) -> Told:
-    """The program's own answer, with proofs where it can write and check them; a cup's as it is."""
+    """The program's own answer, with proofs where it can write and check them."""
     path = common.program_path(program)
     written = run_mode(path, DECIDE, data, "--proofs")
     if written.status == 1:
@@ -33,7 +32,7 @@ def own_report(program: str | None, data: bytes, league: Input) -> Told:
     found = refusal_of_report(path, data, written.output)
     note = "" if found in ("accepted", "unknown") else (
         f"The program's own check refuses its proofs: {found}. They are left out.")
-    return Told(league, report, found == "accepted" or league.sheet.is_cup, note)
+    return Told(league, report, found == "accepted", note)
 
 
 def proved_row(answer: Answer, verdict: Verdict) -> Verdict | None:
@@ -45,9 +44,7 @@ def proved_row(answer: Answer, verdict: Verdict) -> Verdict | None:
 
 
 def refusal_of_report(path: str, front: bytes, report: bytes) -> str:
-    """`accepted`, `unknown` where no mode checks it, or why the report is refused."""
-    if begins_a_cup(front):
-        return "unknown"
+    """`accepted`, `unknown` where there is no mode `check`, or why the report is refused."""
     ended = front if front.endswith(b"\n") or not front else front + b"\n"
     done = run_mode(path, DECIDE_CHECK, ended + b"proofs\n" + report)
     rows = [row.split(b",") for row in done.output.splitlines()]

@@ -62,10 +62,10 @@ class Why:
         return data if few else with_budget(data, min(TRIAL_BUDGET, self.view.sheet.budget))
 
     def proof_of(self, verdict: Verdict) -> Verdict | None:
-        """The verdict with its proof, where that may be told."""
+        """The verdict with its proof, where the program's check accepted it."""
         told = self.told or self._own_report(verdict.places)
         answer: Answer = told.report.answers[-1 if self.told is None else self.view.ask.position]
-        return proved_row(answer, verdict) if told.is_told else None
+        return proved_row(answer, verdict) if told.is_checked else None
 
     def _own_report(self, places: int) -> Told:
         """The program's own report of this line."""

@@ -69,8 +69,6 @@ def check_cup_refusals(counter: Counter) -> None:
         counter.check("cup mistake: " + mistake.name, mistake_faults(mistake))
     for name, words, status, says in (
             ("of another mode", ["lint", "-", "--mode", "decide"], 2, "the sheet of a cup"),
-            ("checked", ["lint", "-", "--mode", "check"], 2, "the sheet of a cup"),
-            ("check", ["check", "-"], 1, "which this part does not take"),
             ("tonight", ["tonight", "-"], 1, "which this part does not take"),
             ("scores", ["scores", "-"], 1, "which this part does not take"),
             ("save", ["save", "-"], 1, "which this part does not take")):

@@ -109,8 +109,8 @@ def check_told(counter: Counter) -> None:
                  "1 Delta 2 6 0 +2"),
                 ("ranking", ["ask", late], "1 Köln One 3 +1 2 in 2 Elbe Two 3 +0 1 out"),
                 ("why first", ["explain", early, "--why", "Anchor"],
-                 "Anchor ends first in Group One, however the open matches end. So the program's "
-                 "proof says, which was not checked."),
+                 "Anchor ends first in Group One, however the open matches end. The program's "
+                 "check accepts the proof."),
                 ("why lost", ["explain", sooner, "--why", "Dock United"],
                  "Dock United ends third or lower in Group One"),
                 ("ways", ["explain", early, "--why", "Köln"],

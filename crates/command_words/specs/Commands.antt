@@ -14,7 +14,7 @@ use Rattle.clap.specs.Words.{new_rule, with_rule}
 use Rattle.command_words.specs.declared.command.Mode.{Mode}
 use Rattle.command_words.specs.declared.command.Mode.TheVariants.{Verdicts, Table, Scores, WhatIf}
 use Rattle.command_words.specs.declared.command.Mode.TheVariants.{Save, Resume, Decide, Check}
-use Rattle.command_words.specs.declared.command.Mode.TheVariants.{Groups, Sample}
+use Rattle.command_words.specs.declared.command.Mode.TheVariants.{Groups, GroupsCheck, Sample}
 use Rattle.command_words.specs.declared.command.Command.{Command}
 
 -- ---- the words that may stand
@@ -67,6 +67,7 @@ mode_named word proofs seed =
     else if bytes_eq word (codes "check") then Some (Check false)
     else if bytes_eq word (codes "decide_check") then Some (Check true)
     else if bytes_eq word (codes "groups") then Some (Groups proofs)
+    else if bytes_eq word (codes "groups_check") then Some GroupsCheck
     else if bytes_eq word (codes "sample") then Some (Sample seed)
     else None
 

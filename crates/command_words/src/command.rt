@@ -24,6 +24,8 @@ pub enum Mode {
     /// At each ask of a cup, the verdict of every club; with `proofs`, what shows it after those
     /// that it shows.
     Groups { proofs: bool },
+    /// A report of `Groups` is checked.
+    GroupsCheck,
     /// The verdicts of the league that this number gives are counted. No input is read.
     Sample { seed: u64 },
 }

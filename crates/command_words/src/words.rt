@@ -105,6 +105,8 @@ fn mode_named(word: &str, proofs: bool, seed: u64) -> Option<Mode>
         Some(Mode::Check { wide: true })
     } else if word == "groups" {
         Some(Mode::Groups { proofs })
+    } else if word == "groups_check" {
+        Some(Mode::GroupsCheck)
     } else if word == "sample" {
         Some(Mode::Sample { seed })
     } else {

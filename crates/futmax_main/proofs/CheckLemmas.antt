@@ -34,7 +34,7 @@ IsJudged NotProved = Unit {0}
 IsJudged status = ⊥
 
 -- where a report was judged, nothing is left
-judged-end : (outcome : CheckOutcome) (new : LineReaderView) (left : Option (List ℕ))
+pub judged-end : (outcome : CheckOutcome) (new : LineReaderView) (left : Option (List ℕ))
     → IsJudged (status_of_check outcome) → LeavesCheck new left (Ok outcome) → IsAtEnd left
 judged-end (outcome.Accepted rows unsettled) new left is leaves = leaves.2
 judged-end (outcome.Refused number fault) new left is leaves = leaves.2

@@ -2,6 +2,8 @@
 pub mod EarnedLemmas
 pub mod CheckLemmas
 pub mod CheckedLemmas
+pub mod CupCheckLemmas
+pub mod CheckedCupLemmas
 pub mod GroupsAnsweredLemmas
 pub mod FoundClubLemmas
 pub mod ModeLemmas

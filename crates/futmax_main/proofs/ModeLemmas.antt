@@ -9,10 +9,10 @@ use Rattle.run_ends.specs.declared.status.Status.TheVariants.{NotProved, TooLong
 use Rattle.command_words.specs.declared.command.Mode.{Mode}
 use Rattle.command_words.specs.declared.command.Mode.TheVariants.{Verdicts, Table, Scores, WhatIf}
 use Rattle.command_words.specs.declared.command.Mode.TheVariants.{Save, Resume, Decide, Check}
-use Rattle.command_words.specs.declared.command.Mode.TheVariants.{Groups, Sample}
+use Rattle.command_words.specs.declared.command.Mode.TheVariants.{Groups, GroupsCheck, Sample}
 use Rattle.cert_check.specs.declared.expected.ReportKind.{ReportKind}
 use Rattle.futmax_main.specs.Checks.{Judge, ServesCheck, kind_of_check, report_judge}
-use Rattle.futmax_main.specs.CupModes.{groups_kind}
+use Rattle.futmax_main.specs.CupModes.{cup_judge, groups_kind}
 use Rattle.futmax_main.specs.SampleRows.{ServesSample}
 use Rattle.futmax_main.specs.Modes.{IsChecked, IsCheckMode, IsCheckSettled, IsSettledAs}
 use Rattle.futmax_main.specs.Modes.{ReadsNothing, ServesAs, StopsAs}
@@ -20,6 +20,9 @@ use Rattle.futmax_main.specs.inside.ModeEnds.{MayEndAs}
 use Rattle.cup_turns.proofs.CupEarnedLemmas.{cup-settled}
 use Rattle.futmax_main.specs.CupModes.{IsGroupsAnswer}
 use Rattle.futmax_main.proofs.EarnedLemmas.{settled}
+use Rattle.futmax_main.proofs.CheckedCupLemmas.{cup_checked-bad_feed, cup_checked-bad_sheet}
+use Rattle.futmax_main.proofs.CheckedCupLemmas.{cup_checked-done, cup_checked-not_proved}
+use Rattle.futmax_main.proofs.CheckedCupLemmas.{cup_checked-too_long, pair_cup}
 use Rattle.futmax_main.proofs.GroupsAnsweredLemmas.{groups-answered}
 use Rattle.futmax_main.proofs.CheckedLemmas.{checked-bad_feed, checked-bad_sheet, checked-done}
 use Rattle.futmax_main.proofs.CheckedLemmas.{checked-not_proved, checked-too_long, ended_line}
@@ -44,7 +47,7 @@ record AreChecked {Outcome : Type 0} (judge : Judge Outcome) : Type 0 where
   not_proved : (input : List ℕ) × IsChecked judge input NotProved
   too_long : (input : List ℕ) × IsChecked judge input TooLong
 
--- of reports
+-- of reports on leagues
 reports-checked : (kind : ReportKind) → AreChecked (report_judge kind)
 reports-checked kind = record {
   done = (pair_sheet ++ ended_line (codes "proofs"), checked-done kind);
@@ -52,6 +55,16 @@ reports-checked kind = record {
   bad_feed = (pair_sheet ++ ended_line (codes "x"), checked-bad_feed kind);
   not_proved = (pair_sheet, checked-not_proved kind);
   too_long = (replicate 1025 97, checked-too_long kind);
+}
+
+-- and on cups
+cups-checked : AreChecked cup_judge
+cups-checked = record {
+  done = (pair_cup ++ ended_line (codes "proofs"), cup_checked-done);
+  bad_sheet = ([], cup_checked-bad_sheet);
+  bad_feed = (pair_cup ++ ended_line (codes "x"), cup_checked-bad_feed);
+  not_proved = (pair_cup, cup_checked-not_proved);
+  too_long = (replicate 1025 97, cup_checked-too_long);
 }
 
 -- the status of a check in which no device failed
@@ -115,6 +128,8 @@ mode-settled (Check wide) input left told old now status serves may read write =
     left old now status serves may read write
 mode-settled (Groups proofs) input left told old now status serves may read write =
     cup-settled (IsGroupsAnswer proofs) input left told old now status serves may read write
+mode-settled GroupsCheck input left told old now status serves may read write =
+    check-settled cup_judge cups-checked input left old now status serves may read write
 mode-settled (Sample seed) input left told old now status serves may read write =
     sample-settled seed old now input status serves write
 mode-settled mode input left told old now status serves may read write =
@@ -128,6 +143,8 @@ serves_as-no_memory (Some (Check wide)) input left told old =
     check-starved (report_judge (kind_of_check wide)) input left old
 serves_as-no_memory (Some (Groups proofs)) input left told old =
     serves-nothing (groups_kind proofs) (groups-answered proofs) input left told old
+serves_as-no_memory (Some GroupsCheck) input left told old =
+    check-starved cup_judge input left old
 serves_as-no_memory (Some (Sample seed)) input left told old = refl
 serves_as-no_memory (Some mode) input left told old = serves-nothing (session_kind mode)
     (session-answered mode) input left told old
@@ -138,6 +155,7 @@ pub stops-unread : {S : Type 0} (left : S → Option (List ℕ)) (reads : S → 
     → StopsAs left reads mode source source status
 stops-unread left reads None source status = tt
 stops-unread left reads (Some (Check wide)) source status = tt
+stops-unread left reads (Some GroupsCheck) source status = tt
 stops-unread left reads (Some (Sample seed)) source status = tt
 stops-unread left reads (Some (Groups proofs)) source status =
     stops-nothing left reads LeadCup source status
@@ -150,6 +168,8 @@ pub settled_as-no_memory : (mode : Option Mode) (input : Option (List ℕ))
 settled_as-no_memory None input = inr refl
 settled_as-no_memory (Some (Check wide)) None = inr refl
 settled_as-no_memory (Some (Check wide)) (Some input) = inr refl
+settled_as-no_memory (Some GroupsCheck) None = inr refl
+settled_as-no_memory (Some GroupsCheck) (Some input) = inr refl
 settled_as-no_memory (Some (Groups proofs)) None = inr refl
 settled_as-no_memory (Some (Groups proofs)) (Some input) = inr refl
 settled_as-no_memory (Some (Sample seed)) input = inr refl
@@ -160,6 +180,7 @@ settled_as-no_memory (Some mode) (Some input) = inr refl
 pub only_checks : (mode : Mode) (status : Status) → MayEndAs mode status → status ≡ NotProved
     → IsCheckMode mode
 only_checks (Check wide) status may is = tt
+only_checks GroupsCheck status may is = tt
 only_checks mode status may is = absurd (subst MayEndSession is may)
 
 -- ---- the modes that answer asks

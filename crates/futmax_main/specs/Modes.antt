@@ -2,7 +2,8 @@
 -- text is written, that a report is checked, or that a sample is made.
 use Rattle.std.specs.Prelude.{◌≡◌, ℕ, Bool, ◌⊎◌, List, Option, Some, None}
 use Rattle.command_words.specs.declared.command.Mode.{Mode}
-use Rattle.command_words.specs.declared.command.Mode.TheVariants.{Check, Groups, Sample}
+use Rattle.command_words.specs.declared.command.Mode.TheVariants.{Check, Groups, GroupsCheck}
+use Rattle.command_words.specs.declared.command.Mode.TheVariants.{Sample}
 use Rattle.run_ends.specs.declared.status.Status.{Status}
 use Rattle.run_ends.specs.declared.status.Status.TheVariants.{Done, BadWords, OutOfMemory}
 use Rattle.run_ends.specs.Runs.{IsSettled, RefusesWords, Serves}
@@ -11,7 +12,7 @@ use Rattle.session_turns.specs.LastReads.{LeadSession}
 use Rattle.session_turns.specs.Texts.{session_kind}
 use Rattle.cup_turns.specs.CupLastReads.{LeadCup}
 use Rattle.futmax_main.specs.Checks.{ComesTo, Judge, ServesCheck, kind_of_check, report_judge}
-use Rattle.futmax_main.specs.CupModes.{groups_kind}
+use Rattle.futmax_main.specs.CupModes.{cup_judge, groups_kind}
 use Rattle.futmax_main.specs.SampleRows.{ServesSample}
 
 -- ---- what a run leaves
@@ -25,6 +26,8 @@ ServesAs (Some (Check wide)) input left ended old new status =
     ServesCheck (report_judge (kind_of_check wide)) input left old new status
 ServesAs (Some (Groups proofs)) input left ended old new status =
     Serves (groups_kind proofs) input left ended old new status
+ServesAs (Some GroupsCheck) input left ended old new status =
+    ServesCheck cup_judge input left old new status
 ServesAs (Some (Sample seed)) input left ended old new status = ServesSample seed old new status
 ServesAs (Some mode) input left ended old new status =
     Serves (session_kind mode) input left ended old new status
@@ -35,6 +38,7 @@ abbrev pub StopsAs : {S : Type 0} → (S → Option (List ℕ)) → (S → List 
     → Option Mode → S → S → Status → Type 0
 StopsAs left reads None before after status = Unit {0}
 StopsAs left reads (Some (Check wide)) before after status = Unit {0}
+StopsAs left reads (Some GroupsCheck) before after status = Unit {0}
 StopsAs left reads (Some (Sample seed)) before after status = Unit {0}
 StopsAs left reads (Some (Groups proofs)) before after status =
     StopsSession left reads LeadCup before after status
@@ -67,10 +71,12 @@ IsSettledAs None input status = (status ≡ BadWords) ⊎ (status ≡ OutOfMemor
 IsSettledAs (Some (Check wide)) input status =
     IsCheckSettled (report_judge (kind_of_check wide)) input status
 IsSettledAs (Some (Groups proofs)) input status = IsSettled (groups_kind proofs) input status
+IsSettledAs (Some GroupsCheck) input status = IsCheckSettled cup_judge input status
 IsSettledAs (Some (Sample seed)) input status = (status ≡ Done) ⊎ (status ≡ OutOfMemory)
 IsSettledAs (Some mode) input status = IsSettled (session_kind mode) input status
 
 -- the mode is one of those that judge a report
 abbrev pub IsCheckMode : Mode → Type 0
 IsCheckMode (Check wide) = Unit {0}
+IsCheckMode GroupsCheck = Unit {0}
 IsCheckMode mode = ⊥

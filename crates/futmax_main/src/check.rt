@@ -75,7 +75,8 @@ pub(crate) fn put_judged<K: Sink>(row: &[u8], judged: Status, sink: &mut K) -> S
     }
 }
 
-fn check_row(alloc: Global, outcome: CheckOutcome) -> Result<Vec<u8>, OutOfMemory>
+/// The one row that is written, by what the input comes to.
+pub(crate) fn check_row(alloc: Global, outcome: CheckOutcome) -> Result<Vec<u8>, OutOfMemory>
     ensures { IfOk result (λ row. row.items ≡ check_row outcome) }
 {
     match outcome {
@@ -128,7 +129,8 @@ pub(crate) fn refused_row(
     write_row(alloc, &fields)
 }
 
-fn status_of_check(outcome: CheckOutcome) -> Status
+/// The status, by the same.
+pub(crate) fn status_of_check(outcome: CheckOutcome) -> Status
     ensures { result ≡ status_of_check outcome }
 {
     match outcome {

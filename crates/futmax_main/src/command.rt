@@ -11,6 +11,7 @@ ghost use Rattle.session_turns.specs.inside.Turns.{CountsWords};
 
 use crate::check::{kind_of_check, run_check};
 use crate::groups::GroupAnswers;
+use crate::groups_check::run_cup_check;
 use crate::sample::run_sample;
 use crate::session::run_session;
 use crate::setup::Setup;
@@ -102,6 +103,7 @@ fn run_mode<R: Threads + Wait + Sync, S: Source + Send, K: Sink, G: Gate + Sync>
             run_check(setup.rt, setup.alloc, kind_of_check(wide), source, sink)
         }
         Mode::Groups { proofs } => { run_cup(setup.alloc, &GroupAnswers { proofs }, source, sink) }
+        Mode::GroupsCheck => run_cup_check(setup.alloc, source, sink),
         Mode::Sample { seed } => run_sample(setup.alloc, seed, sink),
     }
 }

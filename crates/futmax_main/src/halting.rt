@@ -55,6 +55,7 @@ pub fn next_round<R: Threads + Wait + Sync, S: Source + Send, G: Gate + Sync>(
         | Mode::Decide { .. }
         | Mode::Check { .. }
         | Mode::Groups { .. }
+        | Mode::GroupsCheck
         | Mode::Sample { .. } => Ok(halt_of(read_round(alloc, pool, reader, source)?)),
     }
 }

@@ -8,6 +8,7 @@
 mod check;
 mod command;
 mod groups;
+mod groups_check;
 mod halting;
 mod sample;
 mod session;

@@ -19,7 +19,7 @@ use Rattle.report_laws.proofs.LineReadLemmas.{contents-text}
 use Rattle.report_laws.proofs.PutLemmas.{ArePut, ReadsAs, put-back}
 
 -- the input before the record `proofs` and other bytes
-input-front : (input rest : List ℕ) (end : ℕ) → (contents_of input).ending ≡ Ok end
+pub input-front : (input rest : List ℕ) (end : ℕ) → (contents_of input).ending ≡ Ok end
     → length (line_ended input) ≤ input_limit
     → GivesFront start (line_ended input) (contents_of input).lines rest
 input-front input rest end read inside =
@@ -31,7 +31,7 @@ input-front input rest end read inside =
     (λ i. record { lines = lines; ending = read i }) (omega (arith, fits))) inside
 
 -- the record `proofs` stays as it is, wherever it stands
-proofs_content : (position : Position) → content_at position (codes "proofs") ≡ codes "proofs"
+pub proofs_content : (position : Position) → content_at position (codes "proofs") ≡ codes "proofs"
 proofs_content position = by_test (position.lines == 0)
   where
     by_test : (first : Bool) → cond first (without_mark (without_return (codes "proofs")))

@@ -1,5 +1,5 @@
 -- How the session of an input that has bytes ends: no device fails and no memory runs out there. So
--- where it is complete, its sheet is whole and no line of its feed is refused.
+-- where it is complete, its sheet is whole and no line of its feed is refused. So it is of a cup.
 use Rattle.std.proofs.Common.{◌≡◌, ℕ, Bool, true, false, ◌&&◌, cond, List, [], ◌∷◌, ◌++◌, Option}
 use Rattle.std.proofs.Common.{length, Some, None, Result, Ok, Err, refl, sym, subst}
 use Rattle.league_core.specs.declared.sheet.Sheet.{Sheet}
@@ -18,6 +18,15 @@ use Rattle.fixture_sheet.specs.declared.record.Progress.{Progress}
 use Rattle.fixture_sheet.specs.declared.record.Progress.TheVariants.{SoFar, Whole}
 use Rattle.fixture_sheet.specs.Records.{content_taken}
 use Rattle.fixture_sheet.specs.Sheets.{sheet_reading_by, sheet_reading_from}
+use Rattle.cup_sheet.specs.declared.cup.Cup.{Cup}
+use Rattle.cup_sheet.specs.declared.cup.CupDraft.{CupDraft}
+use Rattle.cup_sheet.specs.declared.fault.CupFault.{CupFault}
+use Rattle.cup_sheet.specs.declared.fault.CupStop.{CupStop}
+use Rattle.cup_sheet.specs.declared.fault.CupStop.TheVariants as cup_stop
+use Rattle.cup_sheet.specs.declared.record.CupProgress.{CupProgress}
+use Rattle.cup_sheet.specs.declared.record.CupProgress.TheVariants as cup_progress
+use Rattle.cup_sheet.specs.CupRecords.{cup_content_taken}
+use Rattle.cup_sheet.specs.CupReadings.{cup_reading_by, cup_reading_from}
 use Rattle.result_log.specs.declared.entry.Entry.{Entry}
 use Rattle.result_log.specs.declared.entry.Entry.TheVariants.{Change, Ask, Proofs, End}
 use Rattle.result_log.specs.declared.fault.FeedFault.{FeedFault}
@@ -29,7 +38,7 @@ use Rattle.run_ends.specs.declared.run_end.Cause.TheVariants as cause
 use Rattle.run_ends.specs.declared.run_end.RunEnd.{RunEnd}
 use Rattle.run_ends.specs.declared.run_end.RunEnd.TheVariants.{Complete, Refused}
 use Rattle.run_ends.specs.declared.status.Status.TheVariants.{Done}
-use Rattle.run_ends.specs.InputEnds.{outcome_at_sheet}
+use Rattle.run_ends.specs.InputEnds.{outcome_at_cup, outcome_at_sheet}
 use Rattle.run_ends.specs.InputEnds.{status_of_cause, status_of_outcome}
 use Rattle.session_turns.specs.inside.FeedCourses.{outcome_at_feed}
 use Rattle.report_laws.proofs.FeedProofsLemmas.{IsUnrefused}
@@ -107,6 +116,47 @@ sheet-refused lines position stop gives complete =
     by_stop (sheet_stop.Read (read_stop.LineTooLong number)) known is = cc
     by_stop (sheet_stop.Read (read_stop.InputTooLong number)) known is = cc
     by_stop sheet_stop.OutOfMemory known is = known
+
+-- ---- the sheet of a cup
+
+-- what comes of it
+abbrev IsKnownCup : Result Cup CupStop → Type 0
+IsKnownCup (Ok cup) = Unit {0}
+IsKnownCup (Err (cup_stop.Fault number fault)) = Unit {0}
+IsKnownCup (Err (cup_stop.Read stop)) = IsKnownEnding (Err stop)
+IsKnownCup (Err cup_stop.OutOfMemory) = ⊥
+
+cup-known : (lines : List (ℕ × List ℕ)) (ending : Result ℕ ReadStop) (draft : Option CupDraft)
+    → IsKnownEnding ending → IsKnownCup (cup_reading_from lines ending draft).gives
+cup-known [] (Ok number) draft known = tt
+cup-known [] (Err stop) draft known = known
+cup-known (line ∷ lines) ending draft known =
+    by_made (cup_content_taken draft line.1) (λ next. cup-known lines ending next known)
+  where
+    by_made : (made : Result CupProgress CupFault)
+        → ((next : Option CupDraft) → IsKnownCup (cup_reading_from lines ending next).gives)
+        → IsKnownCup (cup_reading_by line.0 (record { lines = lines; ending = ending })
+        (cup_reading_from lines ending) made).gives
+    by_made (Ok (cup_progress.SoFar next)) onward = onward next
+    by_made (Ok (cup_progress.Whole cup)) onward = tt
+    by_made (Err fault) onward = tt
+
+-- a session of a cup that is complete has its sheet
+pub cup-refused : (lines : List (List ℕ)) (position : Position) (stop : CupStop)
+    → (cup_reading_from (contents_from position lines).lines
+    (contents_from position lines).ending None).gives ≡ Err stop
+    → outcome_at_cup stop ≡ Complete → ⊥
+cup-refused lines position stop gives complete =
+    by_stop stop (subst IsKnownCup gives
+    (cup-known (contents_from position lines).lines (contents_from position lines).ending None
+    (ending-known position lines))) complete
+  where
+    by_stop : (stop : CupStop) → IsKnownCup (Err stop) → outcome_at_cup stop ≡ Complete → ⊥
+    by_stop (cup_stop.Fault number fault) known is = cc
+    by_stop (cup_stop.Read read_stop.ReadFault) known is = known
+    by_stop (cup_stop.Read (read_stop.LineTooLong number)) known is = cc
+    by_stop (cup_stop.Read (read_stop.InputTooLong number)) known is = cc
+    by_stop cup_stop.OutOfMemory known is = known
 
 -- ---- the feed
 

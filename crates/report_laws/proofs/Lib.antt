@@ -1,7 +1,7 @@
 -- Answers item by item, then reports answer by answer, and the bytes of reports. For whole sessions
 -- after these: items as a type holds their lines, that the lines of an answer are short and read as
 -- they were written, what an input and its feed give before the record `proofs`, and all of it
--- together.
+-- together. Last, reports on cups.
 pub mod ShownLemmas
 pub mod ItemLemmas
 pub mod ReportLemmas
@@ -20,3 +20,14 @@ pub mod FeedProofsLemmas
 pub mod KnownEndLemmas
 pub mod GivenReportLemmas
 pub mod AcceptedTextLemmas
+pub mod AcceptedCupLemmas
+pub mod ShownFormLemmas
+pub mod CupLineBackLemmas
+pub mod ShownSizeLemmas
+pub mod CupBodyLemmas
+pub mod LinesBackLemmas
+pub mod AnswerBackLemmas
+pub mod CupReportLemmas
+pub mod CupGivenLemmas
+pub mod CupCourseTextLemmas
+pub mod AcceptedCupTextLemmas

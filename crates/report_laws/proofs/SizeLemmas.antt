@@ -30,7 +30,7 @@ use Rattle.league_core.proofs.plain.Texts.{decimal-size}
 -- ---- arrays
 
 -- the bytes of these items, with one more for each
-abbrev sizes : List (List ℕ) → ℕ
+abbrev pub sizes : List (List ℕ) → ℕ
 sizes [] = 0
 sizes (item ∷ items) = length item + 1 + sizes items
 
@@ -44,7 +44,7 @@ join-size (item ∷ next ∷ items) =
       length-append item (44 ∷ join_with_byte 44 (next ∷ items)),
     )
 
-array-size : (items : List (List ℕ)) → length (array_text items) ≤ 2 + sizes items
+pub array-size : (items : List (List ℕ)) → length (array_text items) ≤ 2 + sizes items
 array-size items =
     omega (arith, join-size items, length-append (91 ∷ join_with_byte 44 items) (93 ∷ []))
 

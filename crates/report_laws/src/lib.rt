@@ -3,10 +3,12 @@
 //!
 //! The statements are in `specs/inside/AcceptedAnswers.antt`, of one answer,
 //! `specs/inside/AcceptedReports.antt`, of whole reports, `specs/inside/AcceptedBytes.antt`, of
-//! their bytes, and `specs/inside/AcceptedTexts.antt`, of whole sessions. Nothing runs here, and
-//! neither side knows of the other.
+//! their bytes, and `specs/inside/AcceptedTexts.antt`, of whole sessions. So it is of the mode
+//! `groups`: `specs/inside/WrittenCupReports.antt`, `specs/inside/AcceptedCupTexts.antt`. That what
+//! the checker of cups accepts is true stands in `specs/inside/AcceptedCups.antt`. Nothing runs
+//! here, and neither side knows of the other.
 #![tactic(auto)]
 
 mod laws;
 
-pub use laws::answers_are_accepted;
+pub use laws::{accepted_cups_tell_truly, answers_are_accepted, cup_answers_are_accepted};

@@ -52,7 +52,7 @@ use Rattle.what_if.proofs.StepLemmas.{asks-unplayed, other-same, step-about}
 use Rattle.what_if.proofs.WhenLemmas.{when_there}
 use Rattle.command_words.specs.declared.command.Mode.TheVariants.{Verdicts, Table, Scores, WhatIf}
 use Rattle.command_words.specs.declared.command.Mode.TheVariants.{Save, Resume, Decide, Check}
-use Rattle.command_words.specs.declared.command.Mode.TheVariants.{Groups, Sample}
+use Rattle.command_words.specs.declared.command.Mode.TheVariants.{Groups, GroupsCheck, Sample}
 use Rattle.answer_rows.specs.AskedQuestions.{questions_of}
 use Rattle.pool_save.specs.declared.stop.SaveStop.{SaveStop}
 use Rattle.pool_save.specs.SavedReadings.{nothing_saved, saved_reading_of}
@@ -213,6 +213,7 @@ answer-there (Decide proofs) asked league results can =
     decided_there proofs asked.sheet asked.season asked.epoch league results
 answer-there (Check wide) asked league results can = ([], refl)
 answer-there (Groups proofs) asked league results can = ([], refl)
+answer-there GroupsCheck asked league results can = ([], refl)
 answer-there (Sample seed) asked league results can = ([], refl)
 
 -- ---- the asks of a course

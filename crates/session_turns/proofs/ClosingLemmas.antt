@@ -17,7 +17,7 @@ use Rattle.pool_save.specs.SavedItems.{IsSavedOf}
 use Rattle.command_words.specs.declared.command.Mode.{Mode}
 use Rattle.command_words.specs.declared.command.Mode.TheVariants.{Verdicts, Table, Scores, WhatIf}
 use Rattle.command_words.specs.declared.command.Mode.TheVariants.{Save, Resume, Decide, Check}
-use Rattle.command_words.specs.declared.command.Mode.TheVariants.{Groups, Sample}
+use Rattle.command_words.specs.declared.command.Mode.TheVariants.{Groups, GroupsCheck, Sample}
 use Rattle.run_ends.specs.declared.status.Status.TheVariants.{Done, OutOfMemory}
 use Rattle.run_ends.specs.declared.run_end.RunEnd.TheVariants.{Complete}
 use Rattle.session_turns.specs.Plays.{Played}
@@ -37,8 +37,8 @@ EndsPlain mode =
     ((proofs : Bool) × (mode ≡ Verdicts proofs)) ⊎ ((mode ≡ Table) ⊎ ((mode ≡ Scores)
     ⊎ ((mode ≡ WhatIf) ⊎ (((proofs : Bool) × (mode ≡ Resume proofs))
     ⊎ (((proofs : Bool) × (mode ≡ Decide proofs)) ⊎ (((wide : Bool) × (mode ≡ Check wide))
-    ⊎ (((proofs : Bool) × (mode ≡ Groups proofs))
-    ⊎ ((seed : ℕ) × (mode ≡ Sample seed)))))))))
+    ⊎ (((proofs : Bool) × (mode ≡ Groups proofs)) ⊎ ((mode ≡ GroupsCheck)
+    ⊎ ((seed : ℕ) × (mode ≡ Sample seed))))))))))
 
 closing-none : (mode : Mode) (pool : PoolView) → EndsPlain mode → closing_of mode pool ≡ None
 closing-none mode pool (inl is) = ap (λ m. closing_of m pool) is.1
@@ -51,7 +51,9 @@ closing-none mode pool (inr (inr (inr (inr (inr (inr (inl is))))))) =
     ap (λ m. closing_of m pool) is.1
 closing-none mode pool (inr (inr (inr (inr (inr (inr (inr (inl is)))))))) =
     ap (λ m. closing_of m pool) is.1
-closing-none mode pool (inr (inr (inr (inr (inr (inr (inr (inr is)))))))) =
+closing-none mode pool (inr (inr (inr (inr (inr (inr (inr (inr (inl is))))))))) =
+    ap (λ m. closing_of m pool) is
+closing-none mode pool (inr (inr (inr (inr (inr (inr (inr (inr (inr is))))))))) =
     ap (λ m. closing_of m pool) is.1
 
 pub plain-gives : (mode : Mode) (pool : PoolView) (old : Option (List ℕ)) → EndsPlain mode

@@ -32,7 +32,7 @@ use Rattle.what_if.proofs.StepLemmas.{step-about, step-may_come}
 use Rattle.command_words.specs.declared.command.Mode.{Mode}
 use Rattle.command_words.specs.declared.command.Mode.TheVariants.{Table, Scores, WhatIf, Save}
 use Rattle.command_words.specs.declared.command.Mode.TheVariants.{Resume, Decide, Check}
-use Rattle.command_words.specs.declared.command.Mode.TheVariants.{Groups, Sample}
+use Rattle.command_words.specs.declared.command.Mode.TheVariants.{Groups, GroupsCheck, Sample}
 use Rattle.session_turns.specs.declared.halt.Halt.{Halt}
 use Rattle.session_turns.specs.Courses.{about_in}
 use Rattle.session_turns.specs.inside.Halts.{IsAboutAt, about_at}
@@ -102,8 +102,8 @@ abbrev pub IsPlain : Mode → Type 0
 IsPlain mode =
     (mode ≡ Table) ⊎ ((mode ≡ Scores) ⊎ ((mode ≡ Save) ⊎ (((proofs : Bool) × (mode ≡ Resume proofs))
     ⊎ (((proofs : Bool) × (mode ≡ Decide proofs)) ⊎ (((wide : Bool) × (mode ≡ Check wide))
-    ⊎ (((proofs : Bool) × (mode ≡ Groups proofs))
-    ⊎ ((seed : ℕ) × (mode ≡ Sample seed))))))))
+    ⊎ (((proofs : Bool) × (mode ≡ Groups proofs)) ⊎ ((mode ≡ GroupsCheck)
+    ⊎ ((seed : ℕ) × (mode ≡ Sample seed)))))))))
 
 -- lines are entries there
 pub plain-reads : (mode : Mode) (sheet : Sheet) → IsPlain mode
@@ -117,7 +117,9 @@ plain-reads mode sheet (inr (inr (inr (inr (inr (inl is)))))) =
     reads-as mode (Check is.0) sheet is.1
 plain-reads mode sheet (inr (inr (inr (inr (inr (inr (inl is))))))) =
     reads-as mode (Groups is.0) sheet is.1
-plain-reads mode sheet (inr (inr (inr (inr (inr (inr (inr is))))))) =
+plain-reads mode sheet (inr (inr (inr (inr (inr (inr (inr (inl is)))))))) =
+    reads-as mode GroupsCheck sheet is
+plain-reads mode sheet (inr (inr (inr (inr (inr (inr (inr (inr is)))))))) =
     reads-as mode (Sample is.0) sheet is.1
 
 -- and name no fixture to ask about
@@ -131,7 +133,9 @@ plain-about_in mode content (inr (inr (inr (inr (inr (inl is)))))) =
     ap (λ m. about_in m content) is.1
 plain-about_in mode content (inr (inr (inr (inr (inr (inr (inl is))))))) =
     ap (λ m. about_in m content) is.1
-plain-about_in mode content (inr (inr (inr (inr (inr (inr (inr is))))))) =
+plain-about_in mode content (inr (inr (inr (inr (inr (inr (inr (inl is)))))))) =
+    ap (λ m. about_in m content) is
+plain-about_in mode content (inr (inr (inr (inr (inr (inr (inr (inr is)))))))) =
     ap (λ m. about_in m content) is.1
 
 -- a round that only reports does what the mode has to

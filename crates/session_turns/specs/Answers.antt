@@ -16,7 +16,7 @@ use Rattle.decided_rows.specs.DecidedTexts.{IsDecidedText}
 use Rattle.command_words.specs.declared.command.Mode.{Mode}
 use Rattle.command_words.specs.declared.command.Mode.TheVariants.{Verdicts, Table, Scores, WhatIf}
 use Rattle.command_words.specs.declared.command.Mode.TheVariants.{Save, Resume, Decide, Check}
-use Rattle.command_words.specs.declared.command.Mode.TheVariants.{Groups, Sample}
+use Rattle.command_words.specs.declared.command.Mode.TheVariants.{Groups, GroupsCheck, Sample}
 use Rattle.session_turns.specs.Plays.{Played}
 
 -- the verdicts of a season after so many events: the row of the ask, then an item for each
@@ -54,4 +54,5 @@ IsAnswerTo (Decide proofs) played text =
     IsDecidedText proofs played.sheet played.season played.epoch text
 IsAnswerTo (Check wide) played text = text ≡ []
 IsAnswerTo (Groups proofs) played text = text ≡ []
+IsAnswerTo GroupsCheck played text = text ≡ []
 IsAnswerTo (Sample seed) played text = text ≡ []

@@ -51,6 +51,7 @@ fn questions_for(alloc: Global, mode: Mode, sheet: &Sheet) -> Result<Vec<Questio
         | Mode::Decide { .. }
         | Mode::Check { .. }
         | Mode::Groups { .. }
+        | Mode::GroupsCheck
         | Mode::Sample { .. } => Ok(Vec::new(alloc)),
     }
 }
@@ -99,6 +100,7 @@ fn work_out(alloc: Global, mode: Mode, pool: Pool) -> Result<Pool, OutOfMemory>
         | Mode::Decide { .. }
         | Mode::Check { .. }
         | Mode::Groups { .. }
+        | Mode::GroupsCheck
         | Mode::Sample { .. } => Ok(pool),
     }
 }
@@ -125,7 +127,11 @@ fn put_worked<K: Sink>(
         Mode::Scores => put_numbers(alloc, pool, sink),
         Mode::WhatIf => put_outcomes(alloc, pool, about, sink),
         Mode::Decide { proofs } => put_decisions(alloc, proofs, pool, sink),
-        Mode::Save | Mode::Check { .. } | Mode::Groups { .. } | Mode::Sample { .. } => Ok(()),
+        Mode::Save
+        | Mode::Check { .. }
+        | Mode::Groups { .. }
+        | Mode::GroupsCheck
+        | Mode::Sample { .. } => Ok(()),
     }
 }
 

@@ -125,6 +125,7 @@ fn awaits_saved(mode: Mode) -> bool
         | Mode::Decide { .. }
         | Mode::Check { .. }
         | Mode::Groups { .. }
+        | Mode::GroupsCheck
         | Mode::Sample { .. } => false,
     }
 }

@@ -39,6 +39,7 @@ pub fn close_session<K: Sink>(alloc: Global, mode: Mode, pool: Pool, sink: &mut 
         | Mode::Decide { .. }
         | Mode::Check { .. }
         | Mode::Groups { .. }
+        | Mode::GroupsCheck
         | Mode::Sample { .. } => Status::Done,
     }
 }

@@ -1,7 +1,7 @@
 -- How a run of each mode may end.
 use Rattle.std.specs.Prelude.{◌≢◌}
 use Rattle.command_words.specs.declared.command.Mode.{Mode}
-use Rattle.command_words.specs.declared.command.Mode.TheVariants.{Check}
+use Rattle.command_words.specs.declared.command.Mode.TheVariants.{Check, GroupsCheck}
 use Rattle.run_ends.specs.declared.status.Status.{Status}
 use Rattle.run_ends.specs.declared.status.Status.TheVariants.{BadWords}
 use Rattle.run_ends.specs.inside.RunTurns.{MayEndSession}
@@ -9,4 +9,5 @@ use Rattle.run_ends.specs.inside.RunTurns.{MayEndSession}
 -- words are refused by none, and only a report is no proof
 abbrev pub MayEndAs : Mode → Status → Type 0
 MayEndAs (Check wide) status = status ≢ BadWords
+MayEndAs GroupsCheck status = status ≢ BadWords
 MayEndAs mode status = MayEndSession status

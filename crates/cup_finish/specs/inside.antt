@@ -1,0 +1,2 @@
+-- What a club is compared by.
+pub mod Contenders
