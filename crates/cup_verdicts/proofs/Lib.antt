@@ -1,0 +1,2 @@
+-- One verdict more.
+pub mod VerdictLemmas

@@ -1,0 +1,2 @@
+-- The verdicts on the clubs of a cup.
+pub mod CupVerdicts
