@@ -1,27 +1,19 @@
 -- Why a shown answer is accepted: refutations, spent trees and examples as lists of lines are parts
 -- of a report that prove what they say.
-use Rattle.std.proofs.Common.{◌≡◌, ℕ, ◌+◌, Bool, true, false, not, ◌&&◌, ◌||◌, ◌==◌, List, [], ◌∷◌}
+use Rattle.std.proofs.Common.{◌≡◌, ℕ, ◌+◌, true, false, ◌&&◌, ◌||◌, ◌==◌, List, [], ◌∷◌}
 use Rattle.std.proofs.Common.{◌++◌, length, map, refl, sym, ap, ◌∙◌, subst, inl, inr}
-use Rattle.std.proofs.Common.{arith, append-nil, zero-add, cond, nat_lt}
-use Rattle.std.specs.List.{list_all, list_any, flat_map}
-use Rattle.std.proofs.lemmas.Bool.{and_parts, and_from, or_cases, or_left}
-use Rattle.std.proofs.lemmas.Bool.{or_right, false≢true, eqb-true}
+use Rattle.std.proofs.Common.{arith, append-nil, zero-add, cond}
+use Rattle.std.specs.List.{list_all, flat_map}
+use Rattle.std.proofs.lemmas.Bool.{and_parts, and_from}
+use Rattle.std.proofs.lemmas.Bool.{false≢true}
 use Rattle.std.proofs.lemmas.List.{map-append}
 use Rattle.std.proofs.lemmas.List.Folds.{list_all-append}
-use Rattle.league_core.specs.declared.sheet.Sheet.{Sheet}
 use Rattle.league_core.specs.declared.question.Claim.TheVariants.{Inside, Outside}
 use Rattle.league_core.specs.declared.question.Question.{Question}
-use Rattle.league_core.specs.declared.zone.Test.{Test}
-use Rattle.league_core.specs.declared.zone.Test.TheVariants.{Home, Draw, HomeMost, AwayMost, Rival}
+use Rattle.league_core.specs.declared.zone.Test.TheVariants.{Rival}
 use Rattle.league_core.specs.declared.zone.Literal.{Literal}
-use Rattle.league_core.specs.declared.zone.Reason.{Reason}
-use Rattle.league_core.specs.declared.zone.Reason.TheVariants.{Count, Window, Low, High, Tie}
 use Rattle.league_core.specs.game.Results.{Results}
-use Rattle.league_core.specs.game.ClubSets.{clubs_in}
-use Rattle.league_core.specs.search.Zones.{with_test, marked_before, marked_after, is_of_rival}
-use Rattle.league_core.specs.search.Options.{has_finish}
-use Rattle.league_core.specs.search.Reasons.{has_member, has_reason, refutes}
-use Rattle.cert_text.specs.Ranges.{is_test_in_range}
+use Rattle.league_core.specs.search.Zones.{with_test}
 use Rattle.cert_text.specs.TreeLines.{is_test_for}
 use Rattle.wide_lines.specs.declared.wide_reason.WideReason.{WideReason}
 use Rattle.wide_lines.specs.declared.wide_reason.WideReason.TheVariants as why

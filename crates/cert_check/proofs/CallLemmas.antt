@@ -1,7 +1,6 @@
--- What the next line that counts makes of the reading, by what is due there.
+-- What a line of a league's report makes of the reading, by what is due there.
 use Rattle.std.proofs.Common.{◌≡◌, ℕ, ◌+◌, Bool, true, false, not, ◌&&◌, List, [], ◌∷◌, ◌++◌}
-use Rattle.std.proofs.Common.{Ok, refl, sym, ap, ◌∙◌, drop}
-use Rattle.std.proofs.Common.{arith}
+use Rattle.std.proofs.Common.{refl, sym, ap, ◌∙◌, drop}
 use Rattle.std.proofs.lemmas.Bool.{false≢true, and_parts, and_from}
 use Rattle.league_core.specs.declared.sheet.Sheet.{Sheet}
 use Rattle.league_core.specs.declared.question.Question.{Question}
@@ -14,7 +13,6 @@ use Rattle.wide_lines.specs.declared.wide_node.WideNode.TheVariants as node
 use Rattle.wide_lines.specs.WideReasons.{has_wide_reason}
 use Rattle.line_tokens.specs.declared.token.Token.{Token}
 use Rattle.line_tokens.specs.declared.token.Token.TheVariants.{Blank, Row, Proof, Near, Unknown}
-use Rattle.cert_check.specs.declared.stop.CheckStopAt.TheVariants as halt
 use Rattle.line_tokens.specs.declared.tree_line.TreeKind.{TreeKind}
 use Rattle.cert_check.specs.declared.expected.Tally.{Tally}
 use Rattle.cert_check.specs.ExpectedItems.{Basis, Expected, ask_row, verdict_row}
@@ -27,7 +25,7 @@ use Rattle.cert_check.specs.ExpectedItems.{after_node, with_fresh}
 use Rattle.cert_check.specs.Machine.{with_unsettled}
 use Rattle.cert_check.specs.Machine.{ending_of, report_grammar}
 use Rattle.line_tokens.specs.Tokens.{counts}
-use Rattle.cert_check.specs.inside.Calls.{ReportView, ending_from, HaltsAt, Goes, IsNextAt}
+use Rattle.cert_check.specs.inside.Calls.{ReportView, ending_from}
 use Rattle.cert_check.proofs.NextLemmas.{go-if, bad-go, if-go}
 use Rattle.cert_check.proofs.RowLemmas.{ask_row-says}
 
@@ -54,25 +52,13 @@ line_passes judged at (Proof shown) there passed = absurd (false≢true (sym pas
 line_passes judged at (Near rival fresh) there passed = absurd (false≢true (sym passed))
 line_passes judged at Unknown there passed = absurd (false≢true (sym passed))
 
--- a line that does not prove what it says
-pub next_unproved : (judged : ReportView) (from at : ℕ) (token : Token)
-    → IsNextAt judged from at token → (due : Expected) (more : List Expected)
-    → after judged.basis due token ≡ go false more → HaltsAt judged from due (halt.NoProof at)
-next_unproved judged from at token is due more goes = (
-  is.within,
-  λ dues unsettled.
-      is.reads due dues unsettled
-      ∙ ap (λ next. by_next next at
-      (λ rest. ending_from judged (at + 1) (rest ++ dues) (with_unsettled unsettled token))) goes,
-)
-
 -- whether this is anything but the row of a line and a club
 abbrev pub is_quiet : Expected → Bool
 is_quiet (verdict_row line club) = false
 is_quiet _ = true
 
 -- if another thing is due, a line that goes on is no row of an unsettled club
-quiet : (basis : Basis) (due : Expected) (token : Token) (holds : Bool) (more : List Expected)
+pub quiet : (basis : Basis) (due : Expected) (token : Token) (holds : Bool) (more : List Expected)
     → is_quiet due ≡ true → after basis due token ≡ go holds more → (unsettled : ℕ)
     → with_unsettled unsettled token ≡ unsettled
 quiet basis due Blank holds more is goes unsettled = refl
@@ -85,26 +71,6 @@ quiet basis ask_row (Row fields) holds more is goes unsettled =
 quiet basis (verdict_row line club) (Row fields) holds more is goes unsettled =
     absurd (false≢true is)
 quiet basis _ (Row fields) holds more is goes unsettled = absurd (bad-go holds more goes)
-
--- a line that goes on
-pub next_goes : (judged : ReportView) (from at : ℕ) (token : Token) → IsNextAt judged from at token
-    → (due : Expected) (more : List Expected) → is_quiet due ≡ true
-    → after judged.basis due token ≡ go true more → (dues : List Expected) (unsettled : ℕ)
-    → ending_from judged from (due ∷ dues) unsettled
-    ≡ ending_from judged (at + 1) (more ++ dues) unsettled
-next_goes judged from at token is due more is_other goes dues unsettled =
-    is.reads due dues unsettled
-    ∙ ap (λ next. by_next next at
-    (λ rest. ending_from judged (at + 1) (rest ++ dues) (with_unsettled unsettled token))) goes
-    ∙ ap (ending_from judged (at + 1) (more ++ dues))
-    (quiet judged.basis due token true more is_other goes unsettled)
-
--- a line after which nothing more is due of this
-pub next_ends : (judged : ReportView) (from at : ℕ) (token : Token) → IsNextAt judged from at token
-    → (due : Expected) → is_quiet due ≡ true → after judged.basis due token ≡ go true []
-    → Goes judged from due (Ok (at + 1))
-next_ends judged from at token is due is_other goes =
-    (omega (arith, is.within), next_goes judged from at token is due [] is_other goes)
 
 -- ---- trees
 

@@ -1,6 +1,6 @@
 -- What the code of examples rests on: lots, and scores fixture by fixture.
-use Rattle.std.proofs.Common.{◌≡◌, ◌≤◌, ℕ, ◌+◌, Bool, true, false, List, [], ◌∷◌, Option}
-use Rattle.std.proofs.Common.{Some, Result, Ok, Err, length, take, refl, sym, ap, ◌∙◌, arith}
+use Rattle.std.proofs.Common.{◌≡◌, ◌≤◌, ℕ, ◌+◌, Bool, true, false, List, [], Option}
+use Rattle.std.proofs.Common.{Some, Ok, length, take, refl, sym, ap, ◌∙◌, arith}
 use Rattle.std.specs.Prelude.{if◌then◌else◌}
 use Rattle.std.proofs.lemmas.Bool.{false≢true, and_parts, and_from, leb-true, le-leb}
 use Rattle.std.proofs.lemmas.List.{take_all, drop_all}
@@ -14,16 +14,17 @@ use Rattle.league_core.specs.game.Questions.{holds_at}
 use Rattle.cert_text.specs.declared.proof_line.ProofLine.TheVariants as line
 use Rattle.line_tokens.specs.declared.token.Token.{Token}
 use Rattle.line_tokens.specs.declared.token.Token.TheVariants.{Blank, Row, Proof, Near, Unknown}
-use Rattle.cert_check.specs.declared.stop.CheckStopAt.{CheckStopAt}
 use Rattle.cert_check.specs.declared.stop.CheckStopAt.TheVariants as halt
 use Rattle.line_tokens.specs.Tokens.{counts}
 use Rattle.cert_check.specs.LineGrammars.{bad, go}
-use Rattle.cert_check.specs.ExpectedItems.{Basis, Expected, lots, after, is_ending}
+use Rattle.cert_check.specs.ExpectedItems.{Basis, lots, after, is_ending}
 use Rattle.cert_check.specs.ExpectedItems.{finish_with}
 use Rattle.cert_check.specs.ExpectedItems.{lots_if_drawn, scores_due}
-use Rattle.cert_check.specs.inside.Calls.{ReportView, ending_from, HaltsAt, Goes, IsNextAt}
+use Rattle.cert_check.specs.inside.Calls.{ReportView, HaltsAt, Goes, IsNextAt}
 use Rattle.cert_check.specs.inside.Calls.{after_lots_if, lots_of_token, example_due}
-use Rattle.cert_check.proofs.CallLemmas.{next_ends, next_unproved}
+use Rattle.cert_check.specs.Machine.{report_grammar}
+use Rattle.cert_check.proofs.GoesLemmas.{next_ends, next_unproved}
+use Rattle.cert_check.proofs.CallLemmas.{quiet}
 
 -- a score of an unplayed match is one that a match may have
 pub ending_is_score : (sheet : Sheet) (ending : Score) → IsWithinLimits sheet
@@ -82,9 +83,11 @@ pub lots_end : (judged : ReportView) (from at : ℕ) (token : Token) → IsNextA
     → holds ≡ holds_at judged.basis.sheet question finish drawn → holds ≡ true
     → Goes judged from (lots question finish.scores) (Ok (at + 1))
 lots_end judged from at token next question finish found drawn holds deductions is some says so =
-    next_ends judged from at token next (lots question finish.scores) refl
-    (told_lots judged question finish token found drawn holds next.counted deductions is some says
-    ∙ ap (λ it. go it []) so)
+    let goes : after judged.basis (lots question finish.scores) token ≡ go true [] =
+    told_lots judged question finish token found drawn holds next.counted deductions is some says
+    ∙ ap (λ it. go it []) so in
+    next_ends report_grammar judged from at token next (lots question finish.scores)
+    (quiet judged.basis (lots question finish.scores) token true [] refl goes) goes
 
 -- lots with which it does not
 pub lots_fail : (judged : ReportView) (from at : ℕ) (token : Token) → IsNextAt judged from at token
@@ -94,7 +97,7 @@ pub lots_fail : (judged : ReportView) (from at : ℕ) (token : Token) → IsNext
     → holds ≡ holds_at judged.basis.sheet question finish drawn → holds ≡ false
     → HaltsAt judged from (lots question finish.scores) (halt.NoProof at)
 lots_fail judged from at token next question finish found drawn holds deductions is some says so =
-    next_unproved judged from at token next (lots question finish.scores) []
+    next_unproved report_grammar judged from at token next (lots question finish.scores) []
     (told_lots judged question finish token found drawn holds next.counted deductions is some says
     ∙ ap (λ it. go it []) so)
 
@@ -104,27 +107,3 @@ pub example_due-end : (question : Question) (fixture : ℕ) (scores : List (Opti
 example_due-end question fixture scores all =
     ap (λ left. scores_due question (take fixture scores) left) (drop_all fixture scores all)
     ∙ ap (λ ended. lots question ended) (take_all fixture scores all)
-
--- the reading stops along the way
-pub halt_along : (judged : ReportView) (from at : ℕ) (first second : Expected) (stop : CheckStopAt)
-    → ((dues : List Expected) (unsettled : ℕ) → ending_from judged from (first ∷ dues) unsettled
-    ≡ ending_from judged at (second ∷ dues) unsettled)
-    → HaltsAt judged at second stop → HaltsAt judged from first stop
-halt_along judged from at first second (halt.BadLine place) way halts =
-    (halts.0, λ dues unsettled. way dues unsettled ∙ halts.1 dues unsettled)
-halt_along judged from at first second (halt.NoProof place) way halts =
-    (halts.0, λ dues unsettled. way dues unsettled ∙ halts.1 dues unsettled)
-halt_along judged from at first second halt.Short way halts =
-    λ dues unsettled. way dues unsettled ∙ halts dues unsettled
-halt_along judged from at first second halt.OutOfMemory way halts = tt
-
--- what is due at the end of the way is read
-pub goes_along : (judged : ReportView) (from at : ℕ) (first second : Expected)
-    (result : Result ℕ CheckStopAt)
-    → ((dues : List Expected) (unsettled : ℕ) → ending_from judged from (first ∷ dues) unsettled
-    ≡ ending_from judged at (second ∷ dues) unsettled)
-    → Goes judged at second result → Goes judged from first result
-goes_along judged from at first second (Ok to) way goes =
-    (goes.0, λ dues unsettled. way dues unsettled ∙ goes.1 dues unsettled)
-goes_along judged from at first second (Err stop) way goes =
-    halt_along judged from at first second stop way goes

@@ -28,18 +28,19 @@ use Rattle.cert_check.specs.declared.outcome.CheckOutcome.TheVariants.{Refused, 
 use Rattle.cert_check.specs.declared.outcome.CheckFailure.{CheckFailure}
 use Rattle.cert_check.specs.declared.outcome.CheckFailure.TheVariants as failure
 use Rattle.cert_check.specs.declared.expected.ReportKind.{ReportKind}
-use Rattle.cert_check.specs.Outcomes.{outcome_of, outcome_of_sheet, outcome_of_feed, outcome_from}
-use Rattle.cert_check.specs.Outcomes.{outcome_of_report, first_progress}
+use Rattle.cert_check.specs.Outcomes.{outcome_of, outcome_of_sheet, feed_outcome, lines_outcome}
+use Rattle.cert_check.specs.Outcomes.{parts_outcome}
+use Rattle.result_log.specs.Feeds.{feed_of}
 use Rattle.kept_lines.specs.LineLists.{numbered}
 use Rattle.cert_check.specs.inside.InputCalls.{IfRead, ChecksBy, IsStoppedBy, EndsFeed, StopsFeed}
-use Rattle.cert_check.specs.inside.InputCalls.{ReadsLines, outcome_after_sheet, outcome_after_feed}
-use Rattle.cert_check.specs.Outcomes.{ReportInput, ReportProgressView, outcome_at_end, outcome_by}
-use Rattle.cert_check.specs.Outcomes.{part_there}
+use Rattle.cert_check.specs.inside.InputCalls.{ReadsLines, outcome_after_sheet}
+use Rattle.cert_check.specs.Outcomes.{PartedReport, ReportProgressView, outcome_at_end}
+use Rattle.cert_check.specs.Outcomes.{part_outcome}
 use Rattle.cert_check.specs.Outcomes.{progress_with}
 use Rattle.cert_check.specs.inside.InputCalls.{answer_after_check}
 use Rattle.std.proofs.Common.{Bool, append-nil, drop}
 use Rattle.std.specs.Prelude.{if◌then◌else◌}
-use Rattle.cert_check.specs.inside.InputCalls.{report_read, LeavesCheck, CountsCheck, CountsFeed}
+use Rattle.cert_check.specs.inside.InputCalls.{LeavesCheck, CountsCheck, CountsFeed}
 use Rattle.cert_check.specs.inside.InputCalls.{CountsLines}
 use Rattle.port_core.proofs.ContentLemmas.{with_lines-append}
 use Rattle.cert_check.proofs.ReadingLemmas.{read_after, told_after, told_both}
@@ -125,69 +126,84 @@ input-sheet_stop kind before after (read_stop.InputTooLong number) result answer
 
 -- ---- the feed
 
-module _ (kind : ReportKind) (sheet : Sheet) (before after : Option Contents) where
+module _ (judged : List Entry → List NumberedLine → ℕ → CheckOutcome) (sheet : Sheet)
+    (before after : Option Contents) where
+  -- what contents come to as a feed of the sheet, and the lines after it judged so
+  abbrev of_feed : Contents → Option CheckOutcome
+  of_feed contents = feed_outcome judged (feed_of sheet true contents [])
+
   -- after the record `proofs`
   pub feed-proofs : (mid : Option Contents) (entries : List Entry)
       (result : Result CheckOutcome CheckFailure)
       → IfRead before (λ contents. EndsFeed sheet contents mid entries true)
-      → IfRead mid (λ rest. ChecksBy (outcome_after_feed kind sheet entries) rest after result)
-      → IfRead before (λ contents. ChecksBy (outcome_after_sheet kind sheet) contents after result)
+      → IfRead mid (λ rest. ChecksBy
+      (λ (c : Contents). lines_outcome (judged entries) c.lines c.ending) rest after result)
+      → IfRead before (λ contents. ChecksBy of_feed contents after result)
   feed-proofs mid entries result ends checks = λ contents is.
       let leads = ends contents is in
       let there = told_after leads.0 mid contents leads.1 in
-      checks-behind (outcome_after_sheet kind sheet) (outcome_after_feed kind sheet entries)
-      contents
-      there.0 after leads.0 there.2 (λ other. ap (outcome_of_feed kind sheet) (leads.2 other))
-      result
-      (checks there.0 there.1)
+      checks-behind of_feed (λ (c : Contents). lines_outcome (judged entries) c.lines c.ending)
+      contents there.0 after leads.0 there.2
+      (λ other. ap (feed_outcome judged) (leads.2 other)) result (checks there.0 there.1)
 
   -- at a refused line of it
   pub feed-fault : (entries : List Entry) (number : ℕ) (fault : FeedFault) (contents : Contents)
       → StopsFeed sheet contents after entries (feed_stop.Fault number fault)
-      → ChecksBy (outcome_after_sheet kind sheet) contents after (Ok (BadFeed number fault))
-  feed-fault entries number fault contents stops = ap (outcome_of_feed kind sheet) stops.2
+      → ChecksBy of_feed contents after (Ok (BadFeed number fault))
+  feed-fault entries number fault contents stops = ap (feed_outcome judged) stops.2
 
   -- where it stops
   pub feed-stop : (entries : List Entry) (stop : ReadStop)
       (result : Result CheckOutcome CheckFailure) (contents : Contents) → IsStoppedBy stop result
       → StopsFeed sheet contents after entries (feed_stop.Read stop)
-      → ChecksBy (outcome_after_sheet kind sheet) contents after result
+      → ChecksBy of_feed contents after result
   feed-stop entries read_stop.ReadFault result contents answers stops =
-      subst (ChecksBy (outcome_after_sheet kind sheet) contents after) (sym answers) (
+      subst (ChecksBy of_feed contents after) (sym answers) (
         stops.0,
         stops.1,
-        ap (outcome_of_feed kind sheet) (stops.2 (ended (Err
-            read_stop.ReadFault))),
+        ap (feed_outcome judged) (stops.2 (ended (Err read_stop.ReadFault))),
       )
   feed-stop entries (read_stop.LineTooLong number) result contents answers stops =
-      subst (ChecksBy (outcome_after_sheet kind sheet) contents after) (sym answers)
-      (ap (outcome_of_feed kind sheet) stops.2)
+      subst (ChecksBy of_feed contents after) (sym answers) (ap (feed_outcome judged) stops.2)
   feed-stop entries (read_stop.InputTooLong number) result contents answers stops =
-      subst (ChecksBy (outcome_after_sheet kind sheet) contents after) (sym answers)
-      (ap (outcome_of_feed kind sheet) stops.2)
+      subst (ChecksBy of_feed contents after) (sym answers) (ap (feed_outcome judged) stops.2)
 
 -- ---- the report
 
--- the report is whole
-pub report-told : (kind : ReportKind) (sheet : Sheet) (entries : List Entry) (told : ReportLines)
-    (outcome : CheckOutcome) (contents : Contents) (after behind : Option Contents)
-    → ReadsLines contents after (Ok told)
-    → outcome ≡ outcome_from (report_read kind sheet told) entries (first_progress sheet)
-    → ChecksBy (outcome_after_feed kind sheet entries) contents behind (Ok outcome)
-report-told kind sheet entries told outcome contents after behind reads is =
-    ap (outcome_after_feed kind sheet entries) reads.2
-    ∙ ap (λ (all : List NumberedLine). Some (outcome_from
-    (record { kind = kind; sheet = sheet; lines = all; end = told.end }) entries (first_progress
-    sheet)))
-    (sym reads.1)
-    ∙ ap Some (sym is)
+module _ (judged : List NumberedLine → ℕ → CheckOutcome) where
+  -- what contents come to whose lines are judged so
+  abbrev of_lines : Contents → Option CheckOutcome
+  of_lines contents = lines_outcome judged contents.lines contents.ending
+
+  -- the report is whole
+  pub report-told : (told : ReportLines) (outcome : CheckOutcome) (contents : Contents)
+      (after behind : Option Contents) → ReadsLines contents after (Ok told)
+      → outcome ≡ judged told.lines told.end → ChecksBy of_lines contents behind (Ok outcome)
+  report-told told outcome contents after behind reads is =
+      ap of_lines reads.2
+      ∙ ap (λ (all : List NumberedLine). Some (judged all told.end)) (sym reads.1)
+      ∙ ap Some (sym is)
+
+  -- its lines stop
+  pub report-stop : (stop : ReadStop) (result : Result CheckOutcome CheckFailure)
+      (contents : Contents) (after : Option Contents) → IsStoppedBy stop result
+      → ReadsLines contents after (Err (lines_stop.Read stop))
+      → ChecksBy of_lines contents after result
+  report-stop read_stop.ReadFault result contents after answers reads =
+      subst (ChecksBy of_lines contents after) (sym answers) (reads.0, reads.1, refl)
+  report-stop (read_stop.LineTooLong number) result contents after answers reads =
+      subst (ChecksBy of_lines contents after) (sym answers)
+      (ap (lines_outcome judged contents.lines) reads)
+  report-stop (read_stop.InputTooLong number) result contents after answers reads =
+      subst (ChecksBy of_lines contents after) (sym answers)
+      (ap (lines_outcome judged contents.lines) reads)
 
 -- a part that is whole, or not, leads to the input's end
-answer_by : (report : ReportInput) (standing : ReportProgressView) (ending : Ending)
+answer_by : (report : PartedReport) (standing : ReportProgressView) (ending : Ending)
     (onward : ReportProgressView → CheckOutcome) (new : LineReaderView)
     → ((next : ReportProgressView) → answer_after_check new (onward next)
     ≡ Ok (line.End (number_at new.position)))
-    → answer_after_check new (outcome_by report standing ending onward)
+    → answer_after_check new (part_outcome report standing ending onward)
     ≡ Ok (line.End (number_at new.position))
 answer_by report standing (whole_at next unsettled) onward new behind = behind _
 answer_by report standing (bad_line at) onward new behind = refl
@@ -212,44 +228,27 @@ answer_at_end standing (first ∷ lines) new =
     by_test false behind = behind
 
 -- a report is judged at the input's end
-answer_from : (report : ReportInput) (entries : List Entry) (standing : ReportProgressView)
+answer_from : (report : PartedReport) (entries : List Entry) (standing : ReportProgressView)
     (new : LineReaderView)
-    → answer_after_check new (outcome_from report entries standing)
+    → answer_after_check new (parts_outcome report entries standing)
     ≡ Ok (line.End (number_at new.position))
 answer_from report [] standing new = answer_at_end standing (drop standing.at report.lines) new
 answer_from report (Change event ∷ entries) standing new =
     answer_from report entries (progress_with standing (Change event)) new
 answer_from report (Ask ∷ entries) standing new =
-    answer_by report standing (part_there report standing) (outcome_from report entries) new
+    answer_by report standing (report.part_at standing) (parts_outcome report entries) new
     (λ next. answer_from report entries next new)
 answer_from report (Proofs ∷ entries) standing new = answer_from report entries standing new
 answer_from report (End ∷ entries) standing new = answer_from report entries standing new
 
 -- where the reader is left then
-pub report-leaves : (kind : ReportKind) (sheet : Sheet) (entries : List Entry) (told : ReportLines)
+pub report-leaves : (report : PartedReport) (entries : List Entry) (standing : ReportProgressView)
     (outcome : CheckOutcome) (new : LineReaderView) (left : Option (List ℕ))
-    → LeavesReader new left (Ok (line.End told.end))
-    → outcome ≡ outcome_from (report_read kind sheet told) entries (first_progress sheet)
-    → LeavesCheck new left (Ok outcome)
-report-leaves kind sheet entries told outcome new left leaves is =
-    let answer = ap (answer_after_check new) is
-    ∙ answer_from (report_read kind sheet told) entries (first_progress sheet) new in
+    → LeavesReader new left (Ok (line.End report.end))
+    → outcome ≡ parts_outcome report entries standing → LeavesCheck new left (Ok outcome)
+report-leaves report entries standing outcome new left leaves is =
+    let answer = ap (answer_after_check new) is ∙ answer_from report entries standing new in
     subst (LeavesReader new left) (sym answer) (refl, leaves.1, leaves.2)
-
--- its lines stop
-pub report-stop : (kind : ReportKind) (sheet : Sheet) (entries : List Entry) (stop : ReadStop)
-    (result : Result CheckOutcome CheckFailure) (contents : Contents) (after : Option Contents)
-    → IsStoppedBy stop result → ReadsLines contents after (Err (lines_stop.Read stop))
-    → ChecksBy (outcome_after_feed kind sheet entries) contents after result
-report-stop kind sheet entries read_stop.ReadFault result contents after answers reads =
-    subst (ChecksBy (outcome_after_feed kind sheet entries) contents after) (sym answers)
-    (reads.0, reads.1, refl)
-report-stop kind sheet entries (read_stop.LineTooLong number) result contents after answers reads =
-    subst (ChecksBy (outcome_after_feed kind sheet entries) contents after) (sym answers)
-    (ap (outcome_of_report kind sheet entries contents.lines) reads)
-report-stop kind sheet entries (read_stop.InputTooLong number) result contents after answers reads =
-    subst (ChecksBy (outcome_after_feed kind sheet entries) contents after) (sym answers)
-    (ap (outcome_of_report kind sheet entries contents.lines) reads)
 
 -- ---- its lines, one after the other
 

@@ -7,13 +7,14 @@ pub mod CountLemmas
 pub mod AlikeLemmas
 pub mod PieceLemmas
 pub mod NextLemmas
+pub mod TakenLemmas
 pub mod LinePartLemmas
 pub mod RowLemmas
 pub mod NodeLemmas
 pub mod ScoreLemmas
 pub mod PartLemmas
+pub mod GoesLemmas
 pub mod CallLemmas
-pub mod ReachLemmas
 pub mod ExampleLemmas
 pub mod FillLemmas
 pub mod ReportLemmas

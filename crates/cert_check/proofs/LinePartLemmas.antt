@@ -11,6 +11,7 @@ use Rattle.cert_check.specs.inside.LineParts.{PartGrammar, AreAllParts, unsettle
 use Rattle.cert_check.specs.inside.LineParts.{Begins, IsBadLineAt, IsUnprovedAt, AreTooFew}
 use Rattle.cert_check.proofs.NextLemmas.{go-same, bad-go, parts-join, parts-split, Parted}
 use Rattle.cert_check.proofs.MachineLemmas.{count_with, nothing_due}
+use Rattle.cert_check.proofs.TakenLemmas.{taken_shows}
 
 module _ {Basis Line Due : Type 0} (grammar : PartGrammar Basis Line Due) (basis : Basis) where
   -- the grammar reads line by line what its parts are: a line that counts and goes on starts a
@@ -417,22 +418,6 @@ module _ {Basis Line Due : Type 0} (grammar : PartGrammar Basis Line Due) (basis
 
   -- ---- what is accepted
 
-  -- lines that pass and leave nothing due are proved parts
-  proved_by_run : (before : List Line) (dues : List Due)
-      → LeavesDue grammar.reads basis before dues []
-      → AreAllParts grammar true basis dues (filter grammar.counts before)
-  proved_by_run [] dues passed =
-      let P : List Due → Type 0 = λ it. AreAllParts grammar true basis it [] in
-      subst P (sym passed) refl
-  proved_by_run (line ∷ before) [] passed = absurd passed
-  proved_by_run (line ∷ before) (due ∷ dues) passed =
-      let P : List Line → Type 0 = λ it. AreAllParts grammar true basis (passed.0 ++ dues) it in
-      let Q : List Line → Type 0 = λ it. AreAllParts grammar true basis (due ∷ dues) it in
-      subst Q (append-nil (filter grammar.counts (line ∷ before)))
-      (join_line true due dues line true passed.0 before [] passed.1 (λ _. refl)
-      (subst P (sym (append-nil (filter grammar.counts before)))
-      (proved_by_run before (passed.0 ++ dues) passed.2)))
-
   -- what is read as whole is proved
   pub taken_is_proved : (lines : List Line) (dues : List Due) (at unsettled to found : ℕ)
       → ending_by grammar.reads basis lines dues at unsettled ≡ whole_at to found
@@ -440,13 +425,12 @@ module _ {Basis Line Due : Type 0} (grammar : PartGrammar Basis Line Due) (basis
       × (to ≡ at + length taken) × (found ≡ rows_with unsettled taken)
       × AreAllParts grammar true basis dues (filter grammar.counts taken)
   taken_is_proved lines dues at unsettled to found ends =
-      elim (comes lines dues at unsettled) [
-        | all_shown taken rest parts passed is ↦
-            (taken, rest, parts, cc, cc, proved_by_run taken dues passed)
-        | refused place it is ↦ absurd cc
-        | unshown place it is ↦ absurd cc
-        | missing it is ↦ absurd cc
-      ]
+      taken_shows grammar basis (λ line. Unit {0})
+      (record {
+        joins = λ due line more later is_read counted goes parts.
+            agrees.joins true due line true more later counted goes (λ _. refl) parts;
+        passed = agrees.passed;
+      }) lines dues at unsettled to found (λ index other inside. tt) ends
 
   -- of lines none of which counts the first does not
   first_passed : (line : Line) (lines : List Line) → filter grammar.counts (line ∷ lines) ≡ []

@@ -5,7 +5,7 @@ use Rattle.std.proofs.Common.{None, Some, map, drop, length, Result, Ok, Err}
 use Rattle.std.proofs.Common.{refl, sym, ap, ◌∙◌, arith, drop-cons, get_or, IfOk, add-one}
 use Rattle.std.specs.Prelude.{filter}
 use Rattle.std.proofs.Math.Seq.{drop-nil}
-use Rattle.std.proofs.lemmas.List.{drop-map, length-map}
+use Rattle.std.proofs.lemmas.List.{drop-map}
 use Rattle.league_core.specs.declared.sheet.Sheet.{Sheet}
 use Rattle.league_core.specs.declared.memory.OutOfMemory.{OutOfMemory}
 use Rattle.port_core.specs.declared.line.ReadStop.{ReadStop}
@@ -20,48 +20,26 @@ use Rattle.result_log.specs.declared.fault.FeedStop.{FeedStop}
 use Rattle.result_log.specs.declared.fault.FeedStop.TheVariants as feed_stop
 use Rattle.result_log.specs.Feeds.{feed_of}
 use Rattle.line_tokens.specs.declared.token.Token.{Token}
-use Rattle.cert_check.specs.declared.stop.Accepted.{Accepted as PartAccepted}
 use Rattle.cert_check.specs.declared.stop.CheckStop.{CheckStop}
 use Rattle.cert_check.specs.declared.stop.CheckStop.TheVariants as check_stop
 use Rattle.line_tokens.specs.Tokens.{token_of, counts, counted_lines}
-use Rattle.kept_lines.specs.LineLists.{NumberedLine, line_number_at}
+use Rattle.kept_lines.specs.LineLists.{NumberedLine, line_number_at, numbered}
 use Rattle.line_tokens.specs.Tokens.{tokens_of}
 use Rattle.cert_check.specs.LineGrammars.{Ending, whole_at, bad_line, no_proof, short}
 use Rattle.cert_check.specs.declared.expected.ReportKind.{ReportKind}
 use Rattle.cert_check.specs.Machine.{basis_of}
-use Rattle.cert_check.specs.inside.Calls.{ChecksPart, ChecksEnd}
+use Rattle.cert_check.specs.inside.Calls.{ChecksEnd}
 use Rattle.cert_check.proofs.TruthLemmas.{told_truly}
 use Rattle.cert_check.specs.declared.outcome.ReportFault.TheVariants.{BadLine}
 use Rattle.cert_check.specs.declared.outcome.CheckOutcome.{CheckOutcome}
 use Rattle.cert_check.specs.declared.outcome.CheckOutcome.TheVariants.{Accepted, Refused}
 use Rattle.cert_check.specs.Outcomes.{ReportInput, ReportProgressView, outcome_at_end, outcome_by}
-use Rattle.cert_check.specs.Outcomes.{outcome_from}
-use Rattle.cert_check.specs.Outcomes.{outcome_of, outcome_of_close, outcome_of_sheet}
-use Rattle.cert_check.specs.Outcomes.{outcome_of_report, outcome_of_stop, outcome_unproved}
+use Rattle.cert_check.specs.Outcomes.{outcome_from, PartedReport, parts_outcome, close_outcome}
+use Rattle.cert_check.specs.Outcomes.{outcome_of, outcome_of_sheet, lines_outcome, judged_lines}
+use Rattle.cert_check.specs.Outcomes.{outcome_of_stop, outcome_unproved}
 use Rattle.cert_check.specs.Outcomes.{part_there, first_progress, progress_with, progress_after}
 use Rattle.cert_check.specs.inside.ReportTruths.{PartsTellTruly, HasTrueReport}
 use Rattle.cert_check.specs.inside.InputCalls.{GoesOverEntry, IsRefusedBy}
-
--- ---- an entry
-
--- a part ends within the lines
-pub part-within : (report : ReportInput) (old : ReportProgressView) (part : PartAccepted)
-    → ChecksPart (basis_of report.kind report.sheet old.season old.epoch) report.lines old.at
-    (Ok part)
-    → old.at ≤ length report.lines → part.next ≤ length report.lines
-part-within report old part checks room =
-    let told = checks.2 in
-    let shown : NumberedLine → Token = λ l. token_of l.text in
-    let all = length-map report.lines shown in
-    let parts = ap length told.2 in
-    omega (
-      arith,
-      told.3,
-      all,
-      parts,
-      Rattle.std.proofs.lemmas.List.length-append told.0 told.1,
-      Rattle.std.proofs.lemmas.List.length-drop old.at (tokens_of report.lines),
-    )
 
 -- ---- what is left after the last part
 
@@ -199,25 +177,24 @@ end-refused standing lines end stop (Err want) checks answers = tt
 -- ---- one entry after the other
 
 -- what is left from a place on is the entry there and what comes after it
-left_from : (report : ReportInput) (entries : List Entry) (at : ℕ) (other : Entry)
-    (old : ReportProgressView)
-    → at < length entries
-    → outcome_from report (drop at entries) old
-    ≡ outcome_from report (get_or entries at other ∷ drop (at + 1) entries) old
+left_from : (report : PartedReport) (entries : List Entry) (at : ℕ) (other : Entry)
+    (old : ReportProgressView) → at < length entries
+    → parts_outcome report (drop at entries) old
+    ≡ parts_outcome report (get_or entries at other ∷ drop (at + 1) entries) old
 left_from report entries at other old inside =
-    ap (λ (left : List Entry). outcome_from report left old)
+    ap (λ (left : List Entry). parts_outcome report left old)
     (drop-cons entries at other inside
     ∙ ap (λ (n : ℕ). get_or entries at other ∷ drop n entries) (sym (add-one at)))
 
 -- an entry more is gone over
-pub entries-more : (report : ReportInput) (entries : List Entry) (at : ℕ) (other : Entry)
+pub entries-more : (report : PartedReport) (entries : List Entry) (at : ℕ) (other : Entry)
     (first old new : ReportProgressView) → at < length entries
-    → outcome_from report entries first ≡ outcome_from report (drop at entries) old
+    → parts_outcome report entries first ≡ parts_outcome report (drop at entries) old
     → GoesOverEntry report old new (get_or entries at other) None
-    → outcome_from report entries first ≡ outcome_from report (drop (at + 1) entries) new
+    → parts_outcome report entries first ≡ parts_outcome report (drop (at + 1) entries) new
 entries-more report entries at other first old new inside same goes =
     same ∙ left_from report entries at other old inside
-    ∙ goes (outcome_from report (drop (at + 1) entries))
+    ∙ goes (parts_outcome report (drop (at + 1) entries))
 
 -- ---- what is accepted
 
@@ -256,7 +233,7 @@ truly_from report (End ∷ entries) standing rows unsettled is =
     truly_from report entries standing rows unsettled is
 
 -- a stop is never accepted
-stop_accepts_nothing : (stop : ReadStop) (rows unsettled : ℕ)
+pub stop_accepts_nothing : (stop : ReadStop) (rows unsettled : ℕ)
     → outcome_of_stop stop ≡ Some (Accepted rows unsettled) → ⊥
 stop_accepts_nothing read_stop.ReadFault rows unsettled is = cc
 stop_accepts_nothing (read_stop.LineTooLong number) rows unsettled is = cc
@@ -268,52 +245,38 @@ unproved_accepts_nothing : (ending : Result ℕ ReadStop) (rows unsettled : ℕ)
 unproved_accepts_nothing (Ok number) rows unsettled is = cc
 unproved_accepts_nothing (Err stop) rows unsettled is = stop_accepts_nothing stop rows unsettled is
 
-module _ (kind : ReportKind) (contents : Contents) (rows unsettled : ℕ) (sheet : Sheet)
-    (behind : Contents)
-    (is_sheet : sheet_reading_of contents None ≡ record { gives = Ok sheet; rest = behind }) where
-  -- by what ended the lines after the feed
-  by_lines : (entries : List Entry) (rest : Contents)
-      → feed_of sheet true behind [] ≡ record { entries = entries; close = Ok Proofs; rest = rest }
-      → (ending : Result ℕ ReadStop) → rest.ending ≡ ending
-      → outcome_of_report kind sheet entries rest.lines ending ≡ Some (Accepted rows unsettled)
-      → HasTrueReport kind contents
-  by_lines entries rest is_feed (Ok number) whole is = record {
-    sheet = sheet;
-    behind = behind;
-    feed = record { entries = entries; close = Ok Proofs; rest = rest };
-    end = number;
-    is_sheet = is_sheet;
-    is_feed = is_feed;
-    closed = refl;
-    whole = whole;
-    tells = truly_from
-        (record {
-          kind = kind;
-          sheet = sheet;
-          lines = map Rattle.kept_lines.specs.LineLists.numbered rest.lines;
-          end = number;
-        }) entries (first_progress sheet) rows unsettled cc;
-  }
-  by_lines entries rest is_feed (Err stop) whole is =
-      absurd (stop_accepts_nothing stop rows unsettled is)
+-- the record `proofs` ended the feed, and the input its lines, which were judged as accepted
+pub record AreLinesAccepted (judged : List NumberedLine → ℕ → CheckOutcome) (rest : Contents)
+    (close : Result Entry FeedStop) (rows unsettled : ℕ) : Type 0
+  where
+    pub closed : close ≡ Ok Proofs
+    pub end : ℕ
+    pub whole : rest.ending ≡ Ok end
+    pub accepted : judged (map numbered rest.lines) end ≡ Accepted rows unsettled
 
-  -- by what ended the feed
-  by_close : (entries : List Entry) (rest : Contents) (close : Result Entry FeedStop)
-      → feed_of sheet true behind [] ≡ record { entries = entries; close = close; rest = rest }
-      → outcome_of_close kind sheet entries rest close ≡ Some (Accepted rows unsettled)
-      → HasTrueReport kind contents
-  by_close entries rest (Ok (Change event)) is_feed is =
-      absurd (unproved_accepts_nothing rest.ending rows unsettled is)
-  by_close entries rest (Ok Ask) is_feed is =
-      absurd (unproved_accepts_nothing rest.ending rows unsettled is)
-  by_close entries rest (Ok Proofs) is_feed is =
-      by_lines entries rest is_feed rest.ending refl is
-  by_close entries rest (Ok End) is_feed is =
-      absurd (unproved_accepts_nothing rest.ending rows unsettled is)
-  by_close entries rest (Err (feed_stop.Fault number fault)) is_feed is = absurd cc
-  by_close entries rest (Err (feed_stop.Read stop)) is_feed is =
-      absurd (stop_accepts_nothing stop rows unsettled is)
-  by_close entries rest (Err feed_stop.OutOfMemory) is_feed is = absurd cc
+-- and so it is of what is accepted behind a feed
+pub accepted_lines : (judged : List NumberedLine → ℕ → CheckOutcome) (rest : Contents)
+    (close : Result Entry FeedStop) (rows unsettled : ℕ)
+    → close_outcome judged rest close ≡ Some (Accepted rows unsettled)
+    → AreLinesAccepted judged rest close rows unsettled
+accepted_lines judged rest (Ok (Change event)) rows unsettled is =
+    absurd (unproved_accepts_nothing rest.ending rows unsettled is)
+accepted_lines judged rest (Ok Ask) rows unsettled is =
+    absurd (unproved_accepts_nothing rest.ending rows unsettled is)
+accepted_lines judged rest (Ok Proofs) rows unsettled is = by_ending rest.ending refl is
+  where
+    by_ending : (ending : Result ℕ ReadStop) → rest.ending ≡ ending
+        → lines_outcome judged rest.lines ending ≡ Some (Accepted rows unsettled)
+        → AreLinesAccepted judged rest (Ok Proofs) rows unsettled
+    by_ending (Ok number) whole is =
+        record { closed = refl; end = number; whole = whole; accepted = cc }
+    by_ending (Err stop) whole is = absurd (stop_accepts_nothing stop rows unsettled is)
+accepted_lines judged rest (Ok End) rows unsettled is =
+    absurd (unproved_accepts_nothing rest.ending rows unsettled is)
+accepted_lines judged rest (Err (feed_stop.Fault number fault)) rows unsettled is = absurd cc
+accepted_lines judged rest (Err (feed_stop.Read stop)) rows unsettled is =
+    absurd (stop_accepts_nothing stop rows unsettled is)
+accepted_lines judged rest (Err feed_stop.OutOfMemory) rows unsettled is = absurd cc
 
 -- an input whose report is accepted has one that tells the truth
 pub accepted_tells_truly : (kind : ReportKind) (contents : Contents) (rows unsettled : ℕ)
@@ -328,9 +291,25 @@ accepted_tells_truly kind contents rows unsettled is =
     by_gives (Ok sheet) read is =
         let behind = (sheet_reading_of contents None).rest in
         let feed = feed_of sheet true behind [] in
-        by_close kind contents rows unsettled sheet behind
-        (ap (λ (g : Result Sheet SheetStop). record { gives = g; rest = behind }) read)
-        feed.entries feed.rest feed.close refl is
+        let told = accepted_lines (judged_lines kind sheet feed.entries) feed.rest feed.close
+        rows unsettled is in
+        record {
+          sheet = sheet;
+          behind = behind;
+          feed = feed;
+          end = told.end;
+          is_sheet = ap (λ (g : Result Sheet SheetStop). record { gives = g; rest = behind }) read;
+          is_feed = refl;
+          closed = told.closed;
+          whole = told.whole;
+          tells = truly_from
+              (record {
+                kind = kind;
+                sheet = sheet;
+                lines = map numbered feed.rest.lines;
+                end = told.end;
+              }) feed.entries (first_progress sheet) rows unsettled told.accepted;
+        }
     by_gives (Err (sheet_stop.Fault number fault)) read is = absurd cc
     by_gives (Err (sheet_stop.Read stop)) read is =
         absurd (stop_accepts_nothing stop rows unsettled is)

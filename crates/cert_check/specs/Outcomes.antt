@@ -77,6 +77,51 @@ progress_with standing entry =
       epoch = count_with standing.epoch entry;
     }
 
+-- nothing that counts may be left after the last part
+abbrev pub outcome_at_end : ReportProgressView → List NumberedLine → CheckOutcome
+outcome_at_end standing [] = Accepted standing.rows standing.unsettled
+outcome_at_end standing (line ∷ lines) =
+    if counts (token_of line.text) then Refused line.number BadLine
+    else outcome_at_end standing lines
+
+-- a report whatever its parts are: what the part of an ask comes to, and how far the report is
+-- read after a part that ends at this position with so many unsettled rows; its lines with their
+-- numbers, and the number after the last line of the input
+pub record PartedReport : Type 0 where
+  pub part_at : ReportProgressView → Ending
+  pub behind : ReportProgressView → ℕ → ℕ → ReportProgressView
+  pub lines : List NumberedLine
+  pub end : ℕ
+
+-- what a part comes to: if it is whole, what the rest of the report does
+abbrev pub part_outcome : PartedReport → ReportProgressView → Ending
+    → (ReportProgressView → CheckOutcome) → CheckOutcome
+part_outcome report standing (whole_at next unsettled) onward =
+    onward (report.behind standing next unsettled)
+part_outcome report standing (bad_line at) onward =
+    Refused (line_number_at report.lines at) BadLine
+part_outcome report standing (no_proof at) onward =
+    Refused (line_number_at report.lines at) NoProof
+part_outcome report standing short onward = Refused report.end Short
+
+-- an ask has a part of the report, any other entry has none
+abbrev pub entry_outcome : PartedReport → ReportProgressView → Entry
+    → (ReportProgressView → CheckOutcome) → CheckOutcome
+entry_outcome report standing (Change event) onward =
+    onward (progress_with standing (Change event))
+entry_outcome report standing Ask onward =
+    part_outcome report standing (report.part_at standing) onward
+entry_outcome report standing Proofs onward = onward standing
+entry_outcome report standing End onward = onward standing
+
+-- what the report comes to from here on, when these entries of the feed are left
+abbrev pub parts_outcome : PartedReport → List Entry → ReportProgressView → CheckOutcome
+parts_outcome report [] standing = outcome_at_end standing (drop standing.at report.lines)
+parts_outcome report (entry ∷ entries) standing =
+    entry_outcome report standing entry (parts_outcome report entries)
+
+-- ---- a report on a league
+
 -- the same after a part of the report that ends at this position
 abbrev pub progress_after : Sheet → ReportProgressView → ℕ → ℕ → ReportProgressView
 progress_after sheet standing next unsettled =
@@ -86,44 +131,29 @@ progress_after sheet standing next unsettled =
       unsettled = standing.unsettled + unsettled;
     }
 
--- what a part comes to: if it is whole, what the rest of the report does
-abbrev pub outcome_by : ReportInput → ReportProgressView → Ending
-    → (ReportProgressView → CheckOutcome) → CheckOutcome
-outcome_by report standing (whole_at next unsettled) onward =
-    onward (progress_after report.sheet standing next unsettled)
-outcome_by report standing (bad_line at) onward = Refused (line_number_at report.lines at) BadLine
-outcome_by report standing (no_proof at) onward = Refused (line_number_at report.lines at) NoProof
-outcome_by report standing short onward = Refused report.end Short
-
 -- what the lines from a position on come to as the part of an ask
 abbrev pub part_there : ReportInput → ReportProgressView → Ending
 part_there report standing =
     part_ending (basis_of report.kind report.sheet standing.season standing.epoch) report.lines
     standing.at
 
--- an ask has a part of the report, any other entry has none
-abbrev pub outcome_after : ReportInput → ReportProgressView → Entry
-    → (ReportProgressView → CheckOutcome)
-    → CheckOutcome
-outcome_after report standing (Change event) onward =
-    onward (progress_with standing (Change event))
-outcome_after report standing Ask onward =
-    outcome_by report standing (part_there report standing) onward
-outcome_after report standing Proofs onward = onward standing
-outcome_after report standing End onward = onward standing
+-- the report by its parts
+abbrev pub parted : ReportInput → PartedReport
+parted report = record {
+  part_at = part_there report;
+  behind = progress_after report.sheet;
+  lines = report.lines;
+  end = report.end;
+}
 
--- nothing that counts may be left after the last part
-abbrev pub outcome_at_end : ReportProgressView → List NumberedLine → CheckOutcome
-outcome_at_end standing [] = Accepted standing.rows standing.unsettled
-outcome_at_end standing (line ∷ lines) =
-    if counts (token_of line.text) then Refused line.number BadLine
-    else outcome_at_end standing lines
+-- what a part comes to: if it is whole, what the rest of the report does
+abbrev pub outcome_by : ReportInput → ReportProgressView → Ending
+    → (ReportProgressView → CheckOutcome) → CheckOutcome
+outcome_by report standing ending onward = part_outcome (parted report) standing ending onward
 
 -- what the report comes to from here on, when these entries of the feed are left
 abbrev pub outcome_from : ReportInput → List Entry → ReportProgressView → CheckOutcome
-outcome_from report [] standing = outcome_at_end standing (drop standing.at report.lines)
-outcome_from report (entry ∷ entries) standing =
-    outcome_after report standing entry (outcome_from report entries)
+outcome_from report entries standing = parts_outcome (parted report) entries standing
 
 -- ---- the whole input
 
@@ -133,14 +163,11 @@ outcome_of_stop ReadFault = None
 outcome_of_stop (read_stop.LineTooLong number) = Some (LineTooLong number)
 outcome_of_stop (read_stop.InputTooLong number) = Some (InputTooLong number)
 
--- what the lines after the record `proofs` come to: the input is read to its end first
-abbrev pub outcome_of_report : ReportKind → Sheet → List Entry → List (ℕ × List ℕ)
+-- what the lines after the record `proofs` come to, judged so: the input is read to its end first
+abbrev pub lines_outcome : (List NumberedLine → ℕ → CheckOutcome) → List (ℕ × List ℕ)
     → Result ℕ ReadStop → Option CheckOutcome
-outcome_of_report kind sheet entries lines (Ok number) =
-    Some (outcome_from
-    (record { kind = kind; sheet = sheet; lines = map numbered lines; end = number }) entries
-    (first_progress sheet))
-outcome_of_report kind sheet entries lines (Err stop) = outcome_of_stop stop
+lines_outcome judged lines (Ok number) = Some (judged (map numbered lines) number)
+lines_outcome judged lines (Err stop) = outcome_of_stop stop
 
 -- the input ended before the record `proofs`, at the number after its last line's, or it stopped
 abbrev pub outcome_unproved : Result ℕ ReadStop → Option CheckOutcome
@@ -153,20 +180,37 @@ outcome_of_feed_stop (feed_stop.Fault number fault) = Some (BadFeed number fault
 outcome_of_feed_stop (feed_stop.Read stop) = outcome_of_stop stop
 outcome_of_feed_stop feed_stop.OutOfMemory = None
 
--- what a feed and the contents after it come to, by what ended the feed
-abbrev pub outcome_of_close : ReportKind → Sheet → List Entry → Contents → Result Entry FeedStop
-    → Option CheckOutcome
-outcome_of_close kind sheet entries rest (Ok (Change event)) = outcome_unproved rest.ending
-outcome_of_close kind sheet entries rest (Ok Ask) = outcome_unproved rest.ending
-outcome_of_close kind sheet entries rest (Ok Proofs) =
-    outcome_of_report kind sheet entries rest.lines rest.ending
-outcome_of_close kind sheet entries rest (Ok End) = outcome_unproved rest.ending
-outcome_of_close kind sheet entries rest (Err stop) = outcome_of_feed_stop stop
+-- what a feed and the contents after it come to, by what ended the feed, if the lines are judged so
+abbrev pub close_outcome : (List NumberedLine → ℕ → CheckOutcome) → Contents
+    → Result Entry FeedStop → Option CheckOutcome
+close_outcome judged rest (Ok (Change event)) = outcome_unproved rest.ending
+close_outcome judged rest (Ok Ask) = outcome_unproved rest.ending
+close_outcome judged rest (Ok Proofs) = lines_outcome judged rest.lines rest.ending
+close_outcome judged rest (Ok End) = outcome_unproved rest.ending
+close_outcome judged rest (Err stop) = outcome_of_feed_stop stop
 
--- the same of a feed
+-- the same of a feed, its lines being judged by its entries
+abbrev pub feed_outcome : (List Entry → List NumberedLine → ℕ → CheckOutcome) → Feed
+    → Option CheckOutcome
+feed_outcome judged feed = close_outcome (judged feed.entries) feed.rest feed.close
+
+-- ---- an input with a league
+
+-- what the lines come to as a report of this kind on a sheet, for a feed of these entries
+abbrev pub judged_lines : ReportKind → Sheet → List Entry → List NumberedLine → ℕ → CheckOutcome
+judged_lines kind sheet entries lines end =
+    outcome_from (record { kind = kind; sheet = sheet; lines = lines; end = end }) entries
+    (first_progress sheet)
+
+-- what the lines after the record `proofs` come to as such a report
+abbrev pub outcome_of_report : ReportKind → Sheet → List Entry → List (ℕ × List ℕ)
+    → Result ℕ ReadStop → Option CheckOutcome
+outcome_of_report kind sheet entries lines ending =
+    lines_outcome (judged_lines kind sheet entries) lines ending
+
+-- what a feed and the contents after it come to
 abbrev pub outcome_of_feed : ReportKind → Sheet → Feed → Option CheckOutcome
-outcome_of_feed kind sheet feed =
-    outcome_of_close kind sheet feed.entries feed.rest feed.close
+outcome_of_feed kind sheet feed = feed_outcome (judged_lines kind sheet) feed
 
 -- what a sheet that is not whole comes to
 abbrev pub outcome_of_sheet_stop : SheetStop → Option CheckOutcome

@@ -5,6 +5,7 @@ pub mod LineParts
 pub mod Grammar
 pub mod Laws
 pub mod Truths
+pub mod Goes
 pub mod Calls
 pub mod Answers
 pub mod ReportTruths

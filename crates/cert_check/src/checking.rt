@@ -12,6 +12,7 @@ use crate::expected::AskedPart;
 use crate::item::PartRead;
 use crate::report::Report;
 use crate::stop::{Accepted, CheckStop, CheckStopAt};
+use crate::stops::by_number;
 use check_bounds::Trail;
 use kept_lines::LineList;
 use league_core::{Season, Sheet};
@@ -41,14 +42,7 @@ pub fn check(
             rows: row_count(sheet),
             unsettled: found.unsettled,
         }),
-        Err(CheckStopAt::BadLine(at)) => Err(CheckStop::BadLine {
-            number: lines.number(at),
-        }),
-        Err(CheckStopAt::NoProof(at)) => Err(CheckStop::NoProof {
-            number: lines.number(at),
-        }),
-        Err(CheckStopAt::Short) => Err(CheckStop::Short),
-        Err(CheckStopAt::OutOfMemory) => Err(CheckStop::OutOfMemory),
+        Err(stop) => Err(by_number(stop, lines)),
     }
 }
 

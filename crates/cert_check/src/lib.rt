@@ -24,6 +24,7 @@ mod ranges;
 mod report;
 mod row;
 mod stop;
+mod stops;
 mod tree;
 
 pub use checking::{check, check_end};
@@ -42,4 +43,5 @@ pub use ranges::{may_refute, same_claim};
 pub use report::Report;
 pub use row::{decimal_of, is_ask_row, word_in_row};
 pub use stop::{Accepted, CheckStop, CheckStopAt};
+pub use stops::{by_number, refused_by, short, stopped};
 pub use tree::{is_tally_whole, with_fresh};

@@ -7,7 +7,8 @@ ghost use Rattle.wide_lines.specs.WideReasons.{has_wide_reason};
 ghost use Rattle.line_tokens.specs.Tokens.{counts};
 ghost use Rattle.cert_check.specs.ExpectedItems.{whole_tree, after};
 ghost use Rattle.cert_check.specs.ExpectedItems as dues;
-ghost use Rattle.cert_check.specs.inside.Calls.{Goes, NodeSays, nodes_due};
+ghost use Rattle.cert_check.specs.inside.Goes.{NodeSays};
+ghost use Rattle.cert_check.specs.inside.Calls.{Goes, nodes_due};
 ghost use Rattle.league_core.specs.inside.Pending.{pending_of};
 ghost use Rattle.cert_check.specs.inside.Calls.{IsPathFor, after_walked};
 

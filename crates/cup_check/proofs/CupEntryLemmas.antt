@@ -1,14 +1,13 @@
 -- A report on a cup entry by entry: what each does, and how far the report is read then.
-use Rattle.std.proofs.Common.{◌≡◌, ◌≤◌, ◌<◌, ℕ, ◌+◌, ◌^◌, List, ◌∷◌, None, Some}
-use Rattle.std.proofs.Common.{length, drop, Result, Ok, Err, sym, ap, ◌∙◌, arith}
-use Rattle.std.proofs.Common.{drop-cons, get_or, IfOk, add-one, subst, length-append}
+use Rattle.std.proofs.Common.{◌≡◌, ◌≤◌, ◌<◌, ℕ, ◌+◌, ◌^◌, List, None, Some}
+use Rattle.std.proofs.Common.{length, Result, Ok, Err, sym, ap, ◌∙◌, arith}
+use Rattle.std.proofs.Common.{IfOk, subst, length-append}
 use Rattle.std.proofs.lemmas.List.{length-drop, length-map}
 use Rattle.league_core.specs.declared.memory.OutOfMemory.{OutOfMemory}
 use Rattle.league_core.specs.declared.sheet.Sheet.{Sheet}
 use Rattle.league_core.specs.declared.season.Event.{Event}
 use Rattle.league_core.specs.game.Seasons.{IsEventOf}
 use Rattle.league_core.proofs.LogLemmas.{IsEventOf-same, IsSeasonOf-applied, unplayed_of}
-use Rattle.result_log.specs.declared.entry.Entry.{Entry}
 use Rattle.result_log.specs.declared.entry.Entry.TheVariants.{Change, Ask}
 use Rattle.kept_lines.specs.LineLists.{NumberedLine}
 use Rattle.cert_check.specs.LineGrammars.{Ending}
@@ -30,8 +29,8 @@ use Rattle.cup_grammar.specs.PlacedGroups.{CupBasis}
 use Rattle.cup_grammar.specs.inside.CupRowTruths.{SaysTrulyInCup}
 use Rattle.cup_check.specs.inside.CupCheckCalls.{ChecksCup}
 use Rattle.cup_check.specs.CupOutcomes.{CupReportInput, cup_basis, cup_outcome_by}
-use Rattle.cup_check.specs.CupOutcomes.{cup_outcome_from, cup_progress_after}
-use Rattle.cup_check.specs.inside.CupInputCalls.{GoesOverCupEntry, IsOnWay}
+use Rattle.cup_check.specs.CupOutcomes.{cup_progress_after}
+use Rattle.cup_check.specs.inside.CupInputCalls.{GoesOverCupEntry, IsProgressWithin}
 
 -- ---- what an entry does
 
@@ -67,7 +66,7 @@ part_stops report old new stop (Err want) checks answers = tt
 -- ---- how far the report is read
 
 -- nothing is read
-pub way-begin : (sheet : Sheet) (lines : ℕ) → IsOnWay sheet lines 0 (first_progress sheet)
+pub way-begin : (sheet : Sheet) (lines : ℕ) → IsProgressWithin sheet lines 0 (first_progress sheet)
 way-begin sheet lines = record {
   season = unplayed_of sheet;
   at = omega arith;
@@ -78,17 +77,17 @@ way-begin sheet lines = record {
 
 -- the event of an entry may come there
 pub way-event : (sheet : Sheet) (lines entries : ℕ) (standing : ReportProgressView) (event : Event)
-    → IsOnWay sheet lines entries standing → IsEntryOf sheet (Change event)
+    → IsProgressWithin sheet lines entries standing → IsEntryOf sheet (Change event)
     → IsEventOf standing.season event
 way-event sheet lines entries standing event way of_sheet =
     IsEventOf-same sheet _ standing.season event (unplayed_of sheet) way.season of_sheet
 
 -- an event more
 pub way-changed : (sheet : Sheet) (lines entries : ℕ) (old new : ReportProgressView)
-    (event : Event) → IsOnWay sheet lines entries old → new ≡ progress_with old (Change event)
-    → IsOnWay sheet lines (entries + 1) new
+    (event : Event) → IsProgressWithin sheet lines entries old
+    → new ≡ progress_with old (Change event) → IsProgressWithin sheet lines (entries + 1) new
 way-changed sheet lines entries old new event way is =
-    subst (IsOnWay sheet lines (entries + 1)) (sym is) (record {
+    subst (IsProgressWithin sheet lines (entries + 1)) (sym is) (record {
       season = IsSeasonOf-applied sheet old.season event way.season;
       at = way.at;
       epoch = omega (arith, way.epoch);
@@ -98,7 +97,8 @@ way-changed sheet lines entries old new event way is =
 
 -- nothing more
 pub way-same : (sheet : Sheet) (lines entries : ℕ) (standing : ReportProgressView)
-    → IsOnWay sheet lines entries standing → IsOnWay sheet lines (entries + 1) standing
+    → IsProgressWithin sheet lines entries standing
+    → IsProgressWithin sheet lines (entries + 1) standing
 way-same sheet lines entries standing way = record {
   season = way.season;
   at = way.at;
@@ -128,45 +128,13 @@ pub way-parted : (cup : Cup) (lines : List NumberedLine) (entries : ℕ)
     → ChecksCup (cup_basis cup old.season old.epoch) lines old.at (Ok part)
     → IsCup cup → part.unsettled < 2 ^ 32
     → new ≡ cup_progress_after cup old part.next part.unsettled
-    → IsOnWay (joint_sheet cup) (length lines) entries old
-    → IsOnWay (joint_sheet cup) (length lines) (entries + 1) new
+    → IsProgressWithin (joint_sheet cup) (length lines) entries old
+    → IsProgressWithin (joint_sheet cup) (length lines) (entries + 1) new
 way-parted cup lines entries old new part checks is_cup unsettled is way =
-    subst (IsOnWay (joint_sheet cup) (length lines) (entries + 1)) (sym is) (record {
+    subst (IsProgressWithin (joint_sheet cup) (length lines) (entries + 1)) (sym is) (record {
       season = way.season;
       at = part-within (cup_basis cup old.season old.epoch) lines old.at part.next checks.2 way.at;
       epoch = omega (arith, way.epoch);
       rows = omega (arith, way.rows, cup_clubs cup is_cup);
       unsettled = omega (arith, way.unsettled, unsettled);
     })
-
--- ---- one entry after the other
-
--- what is left from a place on is the entry there and what comes after it
-left_from : (report : CupReportInput) (entries : List Entry) (at : ℕ) (other : Entry)
-    (old : ReportProgressView) → at < length entries
-    → cup_outcome_from report (drop at entries) old
-    ≡ cup_outcome_from report (get_or entries at other ∷ drop (at + 1) entries) old
-left_from report entries at other old inside =
-    ap (λ (left : List Entry). cup_outcome_from report left old)
-    (drop-cons entries at other inside
-    ∙ ap (λ (n : ℕ). get_or entries at other ∷ drop n entries) (sym (add-one at)))
-
--- an entry more is gone over
-pub entries-more : (report : CupReportInput) (entries : List Entry) (at : ℕ) (other : Entry)
-    (first old new : ReportProgressView) → at < length entries
-    → cup_outcome_from report entries first ≡ cup_outcome_from report (drop at entries) old
-    → GoesOverCupEntry report old new (get_or entries at other) None
-    → cup_outcome_from report entries first ≡ cup_outcome_from report (drop (at + 1) entries) new
-entries-more report entries at other first old new inside same goes =
-    same ∙ left_from report entries at other old inside
-    ∙ goes (cup_outcome_from report (drop (at + 1) entries))
-
--- an entry at which the report comes to this
-pub entries-end : (report : CupReportInput) (entries : List Entry) (at : ℕ) (other : Entry)
-    (first old new : ReportProgressView) (outcome : CheckOutcome) → at < length entries
-    → cup_outcome_from report entries first ≡ cup_outcome_from report (drop at entries) old
-    → GoesOverCupEntry report old new (get_or entries at other) (Some outcome)
-    → outcome ≡ cup_outcome_from report entries first
-entries-end report entries at other first old new outcome inside same goes =
-    sym (same ∙ left_from report entries at other old inside
-    ∙ goes (cup_outcome_from report (drop (at + 1) entries)))

@@ -9,13 +9,9 @@ use Rattle.league_core.specs.declared.season.Event.{Event}
 use Rattle.league_core.specs.game.Results.{Results}
 use Rattle.league_core.specs.game.Seasons.{AreEventsOf, IsEventOf, season_after, unplayed_season}
 use Rattle.league_core.proofs.TableLemmas.{season_after-push}
-use Rattle.port_core.specs.declared.line.ReadStop.{ReadStop}
-use Rattle.port_core.specs.declared.line.ReadStop.TheVariants as read_stop
 use Rattle.port_core.specs.Contents.{Contents}
 use Rattle.result_log.specs.declared.entry.Entry.{Entry}
 use Rattle.result_log.specs.declared.entry.Entry.TheVariants.{Change, Ask, Proofs, End}
-use Rattle.result_log.specs.declared.fault.FeedStop.{FeedStop}
-use Rattle.result_log.specs.declared.fault.FeedStop.TheVariants as feed_stop
 use Rattle.result_log.specs.Feeds.{feed_of}
 use Rattle.result_log.specs.inside.FeedParts.{events_after}
 use Rattle.result_log.proofs.FeedLemmas.{feed_of-log}
@@ -25,8 +21,8 @@ use Rattle.cert_check.specs.LineGrammars.{Ending, whole_at, bad_line, no_proof, 
 use Rattle.cert_check.specs.declared.outcome.CheckOutcome.{CheckOutcome}
 use Rattle.cert_check.specs.declared.outcome.CheckOutcome.TheVariants.{Accepted}
 use Rattle.cert_check.specs.Outcomes.{ReportProgressView, first_progress, outcome_of_stop}
-use Rattle.cert_check.specs.Outcomes.{outcome_unproved, progress_with}
-use Rattle.cert_check.proofs.OutcomeLemmas.{left-none}
+use Rattle.cert_check.specs.Outcomes.{progress_with}
+use Rattle.cert_check.proofs.OutcomeLemmas.{accepted_lines, left-none, stop_accepts_nothing}
 use Rattle.cup_sheet.specs.declared.cup.Cup.{Cup}
 use Rattle.cup_sheet.specs.declared.fault.CupStop.{CupStop}
 use Rattle.cup_sheet.specs.declared.fault.CupStop.TheVariants as cup_stop
@@ -40,7 +36,7 @@ use Rattle.cup_check.specs.declared.outcome.CupOutcome.TheVariants.{Judged}
 use Rattle.cup_check.specs.CupOutcomes.{CupReportInput, cup_basis, cup_outcome_by}
 use Rattle.cup_check.specs.CupOutcomes.{cup_outcome_from, cup_outcome_of, cup_part_there}
 use Rattle.cup_check.specs.CupOutcomes.{cup_progress_after, outcome_after_cup, outcome_of_cup}
-use Rattle.cup_check.specs.CupOutcomes.{outcome_of_cup_close, outcome_of_cup_report}
+use Rattle.cup_check.specs.CupOutcomes.{judged_cup_lines}
 use Rattle.cup_check.specs.inside.CupReportTruths.{CupPartsTellTruly, HasTrueCupReport}
 
 -- events before others are events of the sheet if all are
@@ -106,67 +102,29 @@ module _ (truths : AcceptedCupPartsAreTrue) (report : CupReportInput)
   truly_from log (End ∷ entries) standing rows unsettled are season is =
       truly_from log entries standing rows unsettled are season is
 
--- a stop is never accepted
-stop_accepts_nothing : (stop : ReadStop) (rows unsettled : ℕ)
-    → outcome_of_stop stop ≡ Some (Accepted rows unsettled) → ⊥
-stop_accepts_nothing read_stop.ReadFault rows unsettled is = cc
-stop_accepts_nothing (read_stop.LineTooLong number) rows unsettled is = cc
-stop_accepts_nothing (read_stop.InputTooLong number) rows unsettled is = cc
-
--- nor is an input without proofs
-unproved_accepts_nothing : (ending : Result ℕ ReadStop) (rows unsettled : ℕ)
-    → outcome_unproved ending ≡ Some (Accepted rows unsettled) → ⊥
-unproved_accepts_nothing (Ok number) rows unsettled is = cc
-unproved_accepts_nothing (Err stop) rows unsettled is = stop_accepts_nothing stop rows unsettled is
-
-module _ (truths : AcceptedCupPartsAreTrue) (cup : Cup) (behind : Contents) (rows unsettled : ℕ)
-    (is_cup : IsCup cup) where
-  -- by what ended the lines after the feed
-  by_lines : (entries : List Entry) (rest : Contents)
-      → feed_of (joint_sheet cup) true behind []
-      ≡ record { entries = entries; close = Ok Proofs; rest = rest }
-      → (ending : Result ℕ ReadStop) → rest.ending ≡ ending
-      → outcome_of_cup_report cup entries rest.lines ending ≡ Some (Accepted rows unsettled)
-      → HasTrueCupReport cup behind
-  by_lines entries rest is_feed (Ok number) whole is =
-      let report : CupReportInput =
-      record { cup = cup; lines = map numbered rest.lines; end = number } in
-      let log = feed_of-log (joint_sheet cup) true behind []
-      (All-nil (IsEventOf (unplayed_season (length (joint_sheet cup).clubs)
-      (length (joint_sheet cup).fixtures)))) (omega arith) in
-      record {
-        feed = record { entries = entries; close = Ok Proofs; rest = rest };
-        end = number;
-        is_feed = is_feed;
-        closed = refl;
-        whole = whole;
-        tells = truly_from truths report is_cup [] entries (first_progress (joint_sheet cup)) rows
-            unsettled
-            (subst (λ f. AreEventsOf (joint_sheet cup)
-            (events_after [] (Rattle.result_log.specs.Feeds.Feed.entries f))) is_feed log.0)
-            refl cc;
-      }
-  by_lines entries rest is_feed (Err stop) whole is =
-      absurd (stop_accepts_nothing stop rows unsettled is)
-
-  -- by what ended the feed
-  by_close : (entries : List Entry) (rest : Contents) (close : Result Entry FeedStop)
-      → feed_of (joint_sheet cup) true behind []
-      ≡ record { entries = entries; close = close; rest = rest }
-      → outcome_of_cup_close cup entries rest close ≡ Some (Accepted rows unsettled)
-      → HasTrueCupReport cup behind
-  by_close entries rest (Ok (Change event)) is_feed is =
-      absurd (unproved_accepts_nothing rest.ending rows unsettled is)
-  by_close entries rest (Ok Ask) is_feed is =
-      absurd (unproved_accepts_nothing rest.ending rows unsettled is)
-  by_close entries rest (Ok Proofs) is_feed is =
-      by_lines entries rest is_feed rest.ending refl is
-  by_close entries rest (Ok End) is_feed is =
-      absurd (unproved_accepts_nothing rest.ending rows unsettled is)
-  by_close entries rest (Err (feed_stop.Fault number fault)) is_feed is = absurd cc
-  by_close entries rest (Err (feed_stop.Read stop)) is_feed is =
-      absurd (stop_accepts_nothing stop rows unsettled is)
-  by_close entries rest (Err feed_stop.OutOfMemory) is_feed is = absurd cc
+-- a feed and a report that are accepted behind the sheet of a cup
+pub accepted_behind : AcceptedCupPartsAreTrue → (cup : Cup) (behind : Contents)
+    (rows unsettled : ℕ) → IsCup cup
+    → outcome_after_cup cup behind ≡ Some (Accepted rows unsettled) → HasTrueCupReport cup behind
+accepted_behind truths cup behind rows unsettled is_cup is =
+    let sheet = joint_sheet cup in
+    let feed = feed_of sheet true behind [] in
+    let told = accepted_lines (judged_cup_lines cup feed.entries) feed.rest feed.close rows
+    unsettled is in
+    let report : CupReportInput =
+    record { cup = cup; lines = map numbered feed.rest.lines; end = told.end } in
+    let log = feed_of-log sheet true behind []
+    (All-nil (IsEventOf (unplayed_season (length sheet.clubs) (length sheet.fixtures))))
+    (omega arith) in
+    record {
+      feed = feed;
+      end = told.end;
+      is_feed = refl;
+      closed = told.closed;
+      whole = told.whole;
+      tells = truly_from truths report is_cup [] feed.entries (first_progress sheet) rows
+          unsettled log.0 refl told.accepted;
+    }
 
 -- the sheet of a cup, and a report on it that tells the truth if the cup may be played
 pub record HasTrueCup (contents : Contents) : Type 0 where
@@ -195,14 +153,12 @@ accepted_cup_tells_truly truths contents rows unsettled is =
         → HasTrueCup contents
     by_gives (Ok cup) read is =
         let behind = (cup_reading_of contents None).rest in
-        let feed = feed_of (joint_sheet cup) true behind [] in
         record {
           cup = cup;
           behind = behind;
           is_cup = ap (λ (g : Result Cup CupStop). record { gives = g; rest = behind }) read;
-          has_report = λ is_cup.
-              by_close truths cup behind rows unsettled is_cup feed.entries feed.rest feed.close
-              refl (judged_so (outcome_after_cup cup behind) rows unsettled is);
+          has_report = λ is_cup. accepted_behind truths cup behind rows unsettled is_cup
+              (judged_so (outcome_after_cup cup behind) rows unsettled is);
         }
     by_gives (Err (cup_stop.Fault number fault)) read is = absurd cc
     by_gives (Err (cup_stop.Read stop)) read is =

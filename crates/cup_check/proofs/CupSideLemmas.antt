@@ -1,33 +1,18 @@
 -- What refutes a side of a club: behind the list of groups, and the trees about the club itself.
-use Rattle.std.proofs.Common.{◌≡◌, ◌+◌, ◌<◌, ◌≤◌, ◌∙◌, ℕ, List, [], Result, Ok, Err, true, ap}
+use Rattle.std.proofs.Common.{◌≡◌, ◌+◌, ◌<◌, ◌≤◌, ◌∙◌, ℕ, [], true, ap}
 use Rattle.std.proofs.Common.{arith, length}
 use Rattle.std.specs.Prelude.{nat_le, nat_lt}
 use Rattle.std.proofs.lemmas.Bool.{and_parts, leb-true, ltb-true}
 use Rattle.league_core.specs.declared.question.Claim.{Claim}
 use Rattle.club_keys.specs.declared.club_key.ClubKey.{ClubKey}
 use Rattle.club_keys.specs.inside.KeyEnds.{key_parts}
-use Rattle.cert_check.specs.declared.stop.CheckStopAt.{CheckStopAt}
-use Rattle.cert_check.specs.declared.stop.CheckStopAt.TheVariants as halt
-use Rattle.cert_check.specs.LineGrammars.{go}
 use Rattle.cup_sheet.specs.declared.question.GroupKind.{GroupKind}
 use Rattle.cup_sheet.specs.KeyBounds.{nearer_kind, place_kind}
 use Rattle.cup_groups.specs.declared.question.KindQuestion.{KindQuestion}
 use Rattle.cup_groups.specs.inside.KindQuestions.{group_question_of}
 use Rattle.cup_grammar.specs.PlacedGroups.{PlacedGroup, has_placed_club, own_club}
-use Rattle.cup_grammar.specs.CupDues.{CupDue, tree_head}
-use Rattle.cup_check.specs.inside.CupGoes.{CupReportView, GoesAfterInCup}
-use Rattle.cup_check.specs.inside.CupSideCalls.{TakesNextInCup}
+use Rattle.cup_grammar.specs.CupDues.{tree_head}
 use Rattle.cup_check.proofs.GroupTreeLemmas.{nearer_head, place_head}
-
--- a call that reads all that a line leaves due goes on behind the line
-pub as_taken : (judged : CupReportView) (at : ℕ) (more : List CupDue)
-    (result : Result ℕ CheckStopAt) → GoesAfterInCup judged (at + 1) more result
-    → TakesNextInCup judged (go true more) at result
-as_taken judged at more (Ok to) goes = goes
-as_taken judged at more (Err (halt.BadLine place)) goes = goes
-as_taken judged at more (Err (halt.NoProof place)) goes = goes
-as_taken judged at more (Err halt.Short) goes = goes
-as_taken judged at more (Err halt.OutOfMemory) goes = tt
 
 -- the number of a club in its group
 pub from_start : (mine : PlacedGroup) (club : ℕ) → has_placed_club mine club ≡ true

@@ -40,11 +40,11 @@ use Rattle.cup_groups.specs.inside.KindQuestions.{group_question_of}
 use Rattle.cup_grammar.specs.PlacedGroups.{PlacedGroup, has_placed_club, is_reason_of_kind}
 use Rattle.cup_grammar.specs.PlacedGroups.{own_club, own_set, refuted_node}
 use Rattle.cup_grammar.specs.CupDues.{CupDue, after_group_leaf, after_group_node, nodes}
-use Rattle.cup_check.specs.declared.tree.TreeOf.{TreeOf}
+use Rattle.cup_check.specs.declared.tree.GroupTreeSpec.{GroupTreeSpec}
 use Rattle.cup_check.specs.inside.CupTreeCalls.{IsPathInGroup, own_numbers}
 
 -- the tests of the way are of the group
-pub zone_of_way : (group : PlacedGroup) (wanted : TreeOf) (path : TrailView)
+pub zone_of_way : (group : PlacedGroup) (wanted : GroupTreeSpec) (path : TrailView)
     → IsPathInGroup group wanted path → is_zone_of group.sheet path.zone ≡ true
 zone_of_way group wanted path way =
     let question = group_question_of wanted.question in

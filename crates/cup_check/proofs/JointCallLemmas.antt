@@ -1,5 +1,5 @@
 -- Joint finishes by calls: over one score, and over one group after another.
-use Rattle.std.proofs.Common.{◌≡◌, ◌<◌, ◌≤◌, ℕ, ◌+◌, false, List, [], ◌∷◌, ◌++◌}
+use Rattle.std.proofs.Common.{◌≡◌, ◌<◌, ◌≤◌, ℕ, ◌+◌, true, false, List, [], ◌∷◌, ◌++◌}
 use Rattle.std.proofs.Common.{length, take, drop, get_or, set, Option, Some, None, Result, Ok, Err}
 use Rattle.std.proofs.Common.{refl, sym, ap, ◌∙◌, arith, subst, slice_index_or, length-append}
 use Rattle.std.specs.Prelude.{is_some, slice_get}
@@ -9,8 +9,7 @@ use Rattle.league_core.specs.declared.season.Score.{Score}
 use Rattle.league_core.specs.declared.question.Claim.{Claim}
 use Rattle.league_core.specs.game.Results.{Results}
 use Rattle.cert_check.specs.declared.stop.CheckStopAt.{CheckStopAt}
-use Rattle.cert_check.specs.declared.stop.CheckStopAt.TheVariants as halt
-use Rattle.cert_check.specs.LineGrammars.{bad, by_next}
+use Rattle.cert_check.proofs.GoesLemmas.{goes_along, halts_along, next_reads}
 use Rattle.cup_sheet.specs.CupFeeds.{joint_sheet}
 use Rattle.cup_sheet.specs.Cups.{AreSeasonsOf}
 use Rattle.cup_groups.specs.GroupStarts.{start_of_group}
@@ -19,54 +18,15 @@ use Rattle.cup_grammar.specs.PlacedGroups.{CupBasis, PlacedGroup, placed_groups}
 use Rattle.cup_grammar.specs.CupDues.{CupDue, cup_scores_due, lots, score}
 use Rattle.cup_grammar.specs.CupDues.{scores_of_groups, whole_joint_finish}
 use Rattle.cup_grammar.specs.CupExpected.{after_in_cup}
+use Rattle.cup_grammar.specs.CupReports.{cup_grammar}
 use Rattle.cup_check.specs.inside.CupGoes.{CupReportView, GoesInCup, HaltsInCup}
 use Rattle.cup_check.specs.inside.CupGoes.{IsJudgedInCup, IsNextInCup, cup_ending_from}
-use Rattle.cup_check.specs.inside.CupGoes.{with_unsettled_club}
-use Rattle.cup_check.specs.inside.JointCalls.{AreGroupsOver, GoesOverGroup, GoesOverScore}
+use Rattle.cup_check.specs.inside.JointCalls.{HaveScoresOver, GoesOverGroup, GoesOverScore}
 use Rattle.cup_check.specs.inside.JointCalls.{after_cup_score_if}
-use Rattle.cup_check.proofs.CupCallLemmas.{next_goes}
+use Rattle.cup_check.proofs.CupCallLemmas.{quiet}
 use Rattle.cup_check.proofs.PlaceLemmas.{length-seasons, placed_at}
 use Rattle.cup_check.proofs.JointLemmas.{length-scores, over_more, same_goal_limit, scored_due}
 use Rattle.cup_check.proofs.JointLemmas.{scores_more, unplayed_due}
-
--- ---- the next line
-
--- a line that may not come
-pub next_is_bad : (judged : CupReportView) (from at : ℕ) (token : CupToken)
-    → IsNextInCup judged from at token → (due : CupDue)
-    → after_in_cup judged.basis due token ≡ bad → HaltsInCup judged from due (halt.BadLine at)
-next_is_bad judged from at token next due is = (
-  next.within,
-  λ dues unsettled.
-      next.reads due dues unsettled
-      ∙ ap (λ it. by_next it at (λ rest. cup_ending_from judged (at + 1) (rest ++ dues)
-      (with_unsettled_club unsettled token))) is,
-)
-
--- the reading stops along the way
-pub halts_along : (judged : CupReportView) (from at : ℕ) (first second : CupDue)
-    (stop : CheckStopAt) → ((dues : List CupDue) (unsettled : ℕ)
-    → cup_ending_from judged from (first ∷ dues) unsettled
-    ≡ cup_ending_from judged at (second ∷ dues) unsettled)
-    → HaltsInCup judged at second stop → HaltsInCup judged from first stop
-halts_along judged from at first second (halt.BadLine place) way halts =
-    (halts.0, λ dues unsettled. way dues unsettled ∙ halts.1 dues unsettled)
-halts_along judged from at first second (halt.NoProof place) way halts =
-    (halts.0, λ dues unsettled. way dues unsettled ∙ halts.1 dues unsettled)
-halts_along judged from at first second halt.Short way halts =
-    λ dues unsettled. way dues unsettled ∙ halts dues unsettled
-halts_along judged from at first second halt.OutOfMemory way halts = tt
-
--- what is due at the end of the way is read
-pub goes_along : (judged : CupReportView) (from at : ℕ) (first second : CupDue)
-    (result : Result ℕ CheckStopAt) → ((dues : List CupDue) (unsettled : ℕ)
-    → cup_ending_from judged from (first ∷ dues) unsettled
-    ≡ cup_ending_from judged at (second ∷ dues) unsettled)
-    → GoesInCup judged at second result → GoesInCup judged from first result
-goes_along judged from at first second (Ok to) way goes =
-    (goes.0, λ dues unsettled. way dues unsettled ∙ goes.1 dues unsettled)
-goes_along judged from at first second (Err stop) way goes =
-    halts_along judged from at first second stop way goes
 
 -- ---- one score
 
@@ -91,12 +51,14 @@ over_scored judged from at token next first fixture scores ending inside is says
   λ claim club ended left dues unsettled many.
       let before = ended ++ take fixture scores in
       let later = drop (fixture + 1) scores ++ left in
+      let more = cup_scores_due claim club (before ++ Some ending ∷ []) later ∷ [] in
       let said = says claim club before later
       (length-ended ended scores first fixture many inside) in
       ap (λ due. cup_ending_from judged from (due ∷ dues) unsettled)
       (unplayed_due claim club ended left scores fixture inside is)
-      ∙ next_goes judged from at token next (score claim club before later)
-      (cup_scores_due claim club (before ++ Some ending ∷ []) later ∷ []) refl said dues unsettled
+      ∙ next_reads cup_grammar judged from at token next (score claim club before later) more
+      (quiet judged.basis (score claim club before later) token true more refl said) said
+      dues unsettled
       ∙ ap (λ due. cup_ending_from judged (at + 1) (due ∷ dues) unsettled)
       (scored_due claim club ended left scores fixture ending inside),
 )
@@ -142,7 +104,7 @@ group_limit basis number group is inside there =
 abbrev pub ReachesGroup : CupReportView → ℕ → Claim → ℕ → ℕ → List Results → ℕ → Type 0
 ReachesGroup judged from claim club at finishes number =
     (at ≤ length judged.tokens)
-    × AreGroupsOver (take number judged.basis.seasons) finishes
+    × HaveScoresOver (take number judged.basis.seasons) finishes
     × ((dues : List CupDue) (unsettled : ℕ)
     → cup_ending_from judged from (whole_joint_finish judged.basis claim club ∷ dues) unsettled
     ≡ cup_ending_from judged at (cup_scores_due claim club (scores_of_groups finishes)
@@ -181,7 +143,7 @@ seasons_to basis number group are inside there =
 scores_before : (basis : CupBasis) (number : ℕ) (group : PlacedGroup) (finishes : List Results)
     → AreSeasonsOf basis.cup.groups basis.seasons → number < length basis.cup.groups
     → slice_get (placed_groups basis) number ≡ Some group
-    → AreGroupsOver (take number basis.seasons) finishes
+    → HaveScoresOver (take number basis.seasons) finishes
     → length (scores_of_groups finishes) ≡ group.start.fixture
 scores_before basis number group finishes are inside there over =
     length-scores basis.cup.groups basis.seasons finishes number are over
@@ -200,7 +162,7 @@ pub reach_stops : (judged : CupReportView) (from : ℕ) (claim : Claim) (club at
 reach_stops judged from claim club at finishes number group stop is inside there reaches halts =
     let ended = scores_of_groups finishes in
     let later = scores_of_groups (drop (number + 1) judged.basis.seasons) in
-    halts_along judged from at (whole_joint_finish judged.basis claim club)
+    halts_along cup_grammar judged from at (whole_joint_finish judged.basis claim club)
     (cup_scores_due claim club ended (group.season.scores ++ later)) stop
     (λ dues unsettled. reaches.2 dues unsettled
     ∙ ap (λ it. cup_ending_from judged at (cup_scores_due claim club ended (scores_of_groups it)
@@ -221,7 +183,7 @@ reach_more judged from claim club at finishes number group to finish is inside t
     let basis = judged.basis in
     let ended = scores_of_groups finishes in
     let later = scores_of_groups (drop (number + 1) basis.seasons) in
-    let A : List Results → Type 0 = λ it. AreGroupsOver it (finishes ++ finish ∷ []) in (
+    let A : List Results → Type 0 = λ it. HaveScoresOver it (finishes ++ finish ∷ []) in (
       goes.0,
       subst A (sym (seasons_to basis number group is.of_groups inside there))
           (over_more (take number basis.seasons) finishes group.season finish reaches.1 goes.1),
@@ -241,10 +203,10 @@ pub all_over : (judged : CupReportView) (from : ℕ) (claim : Claim) (club at : 
     (finishes : List Results) (number : ℕ) → AreSeasonsOf judged.basis.cup.groups
     judged.basis.seasons → length judged.basis.cup.groups ≤ number
     → ReachesGroup judged from claim club at finishes number
-    → AreGroupsOver judged.basis.seasons finishes
+    → HaveScoresOver judged.basis.seasons finishes
 all_over judged from claim club at finishes number are past reaches =
     let many = length-seasons judged.basis.cup.groups judged.basis.seasons are in
-    let A : List Results → Type 0 = λ it. AreGroupsOver it finishes in
+    let A : List Results → Type 0 = λ it. HaveScoresOver it finishes in
     subst A (take_all number judged.basis.seasons (omega (arith, many, past))) reaches.1
 
 -- and lots are due
@@ -259,8 +221,8 @@ reach_ends judged from claim club at finishes number result are past reaches goe
     let many = length-seasons judged.basis.cup.groups judged.basis.seasons are in
     let none = drop_all number judged.basis.seasons (omega (arith, many, past)) in
     let ended = scores_of_groups finishes in
-    goes_along judged from at (whole_joint_finish judged.basis claim club) (lots claim club ended)
-    result
+    goes_along cup_grammar judged from at (whole_joint_finish judged.basis claim club)
+    (lots claim club ended) result
     (λ dues unsettled. reaches.2 dues unsettled
     ∙ ap (λ it. cup_ending_from judged at (cup_scores_due claim club ended (scores_of_groups it)
     ∷ dues) unsettled) none)

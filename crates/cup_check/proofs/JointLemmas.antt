@@ -18,7 +18,7 @@ use Rattle.cup_sheet.specs.Cups.{AreSeasonsOf, IsCup, IsGroup}
 use Rattle.cup_groups.specs.GroupStarts.{fixtures_before}
 use Rattle.cup_grammar.specs.CupDues.{cup_scores_due, ends_of_groups}
 use Rattle.cup_grammar.specs.CupDues.{score, scores_of_groups}
-use Rattle.cup_check.specs.inside.JointCalls.{AreGroupsOver, IsGroupOver}
+use Rattle.cup_check.specs.inside.JointCalls.{HaveScoresOver, HasScoresOver}
 use Rattle.cup_check.specs.inside.JointCalls.{group_scores_due}
 
 -- ---- one fixture
@@ -59,8 +59,8 @@ scored_due claim club ended left scores fixture ending inside =
 
 -- one group more has ended
 pub over_more : (seasons finishes : List Results) (season finish : Results)
-    → AreGroupsOver seasons finishes → IsGroupOver season finish
-    → AreGroupsOver (seasons ++ season ∷ []) (finishes ++ finish ∷ [])
+    → HaveScoresOver seasons finishes → HasScoresOver season finish
+    → HaveScoresOver (seasons ++ season ∷ []) (finishes ++ finish ∷ [])
 over_more [] [] season finish over one = (one, tt)
 over_more [] (other ∷ finishes) season finish over one = absurd over
 over_more (other ∷ seasons) [] season finish over one = absurd over
@@ -76,7 +76,7 @@ scores_more finishes finish =
 
 -- so many scores have the groups before one
 pub length-scores : (groups : List Sheet) (seasons finishes : List Results) (number : ℕ)
-    → AreSeasonsOf groups seasons → AreGroupsOver (take number seasons) finishes
+    → AreSeasonsOf groups seasons → HaveScoresOver (take number seasons) finishes
     → length (scores_of_groups finishes) ≡ fixtures_before groups number
 length-scores [] [] [] zero are over = refl
 length-scores [] [] [] (suc number) are over = refl
@@ -98,7 +98,7 @@ length-scores (group ∷ groups) (season ∷ seasons) (finish ∷ finishes) (suc
     )
 
 -- the finishes are how the groups end with their scores
-pub ends_are : (seasons finishes : List Results) → AreGroupsOver seasons finishes
+pub ends_are : (seasons finishes : List Results) → HaveScoresOver seasons finishes
     → ends_of_groups seasons (scores_of_groups finishes) ≡ finishes
 ends_are [] [] over = refl
 ends_are [] (finish ∷ finishes) over = absurd over
@@ -120,7 +120,7 @@ ends_are (season ∷ seasons) (finish ∷ finishes) over =
 
 -- they are seasons of the groups
 pub over_are_seasons : (groups : List Sheet) (seasons finishes : List Results)
-    → AreSeasonsOf groups seasons → AreGroupsOver seasons finishes → AreSeasonsOf groups finishes
+    → AreSeasonsOf groups seasons → HaveScoresOver seasons finishes → AreSeasonsOf groups finishes
 over_are_seasons [] [] [] are over = tt
 over_are_seasons [] [] (finish ∷ finishes) are over = absurd over
 over_are_seasons [] (season ∷ seasons) finishes are over = absurd are

@@ -1,10 +1,9 @@
--- Lines one by one, and parts one after another; groups; what a line keeps; trees; what refutes a
--- side; joint finishes. Then entries of a feed with the parts of a report, readings of a cup's
--- sheet, whole inputs, and that what is accepted is true.
+-- Lines one by one, and parts one after another; groups; trees; what refutes a side; joint
+-- finishes. Then entries of a feed with the parts of a report, readings of a cup's sheet, whole
+-- inputs, and that what is accepted is true.
 pub mod CupCallLemmas
 pub mod CupReachLemmas
 pub mod PlaceLemmas
-pub mod LineRangeLemmas
 pub mod GroupTreeLemmas
 pub mod CupSideLemmas
 pub mod JointLemmas

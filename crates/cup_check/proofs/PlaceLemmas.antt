@@ -5,7 +5,6 @@ use Rattle.std.proofs.Common.{◌∷◌, ◌++◌, length, map, get_or, Some, No
 use Rattle.std.proofs.Common.{ap, ◌∙◌, arith, slice_index_or, drop, subst, not}
 use Rattle.std.specs.Prelude.{slice_get, unwrap_or, if◌then◌else◌, nat_le, nat_lt, ◌&&◌, ◌||◌, ◌==◌}
 use Rattle.std.specs.List.{list_all, list_any}
-use Rattle.std.proofs.lemmas.Option.{same_Some}
 use Rattle.std.proofs.lemmas.Bool.{and_parts, ltb-true}
 use Rattle.std.proofs.lemmas.List.{length-map, map-append, get_or_append_left}
 use Rattle.std.proofs.lemmas.List.{get_or-append_right, drop_all}
@@ -18,7 +17,7 @@ use Rattle.cup_sheet.specs.Cups.{AreSeasonsOf, IsCup, IsGroup, clubs_of_groups, 
 use Rattle.cup_groups.specs.declared.start.GroupStart.{GroupStart}
 use Rattle.cup_groups.specs.GroupStarts.{clubs_before, fixtures_before, start_after}
 use Rattle.cup_groups.specs.GroupStarts.{start_of_group}
-use Rattle.cup_groups.proofs.StartLemmas.{clubs_before-all, clubs_before-next, start_room}
+use Rattle.cup_groups.proofs.StartLemmas.{start_room}
 use Rattle.cup_grammar.specs.PlacedGroups.{CupBasis, PlacedGroup, group_with, groups_at}
 use Rattle.cup_grammar.specs.PlacedGroups.{has_placed_club, placed_from, placed_groups}
 use Rattle.cup_check.specs.inside.CupSideCalls.{are_others}
@@ -255,20 +254,6 @@ with_here groups number group club there has =
 pub with_none : (groups : List PlacedGroup) (number club : ℕ) → length groups ≤ number
     → group_with (drop number groups) club ≡ None
 with_none groups number club all = ap (λ it. group_with it club) (drop_all number groups all)
-
--- the clubs of the last group end the cup's
-pub last_ends : (basis : CupBasis) (number : ℕ) (group : PlacedGroup)
-    → AreSeasonsOf basis.cup.groups basis.seasons → number + 1 ≡ length basis.cup.groups
-    → slice_get (placed_groups basis) number ≡ Some group
-    → group.start.club + length group.sheet.clubs ≡ clubs_together basis.cup.groups
-last_ends basis number group are last there =
-    let groups = basis.cup.groups in
-    let inside : number < length groups = omega (arith, last) in
-    let at = placed_at basis number group.sheet group.season inside are in
-    let same = same_Some _ _ (sym there ∙ at) in
-    ap (λ (it : PlacedGroup). it.start.club + length it.sheet.clubs) same
-    ∙ sym (clubs_before-next groups number group.sheet inside)
-    ∙ ap (clubs_before groups) last ∙ clubs_before-all groups
 
 -- the season of a group is one of it
 season_at : (groups : List Sheet) (seasons : List Results) (number : ℕ) (d : Sheet) (e : Results)

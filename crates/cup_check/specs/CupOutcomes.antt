@@ -3,23 +3,19 @@
 -- feed, in their order, of the groups' seasons and the number of events at that ask, and nothing
 -- that counts after the last part. A refused sheet or feed, and an input that stops, come before
 -- any judgement on the report, as for a league.
-use Rattle.std.specs.Prelude.{ℕ, ◌+◌, true, List, [], ◌∷◌, map, drop, Result, Ok, Err}
+use Rattle.std.specs.Prelude.{ℕ, ◌+◌, true, List, [], Result, Ok, Err}
 use Rattle.std.specs.Prelude.{Option, None, Some, option_map}
 use Rattle.league_core.specs.game.Results.{Results}
 use Rattle.port_core.specs.declared.line.ReadStop.{ReadStop}
 use Rattle.port_core.specs.Contents.{Contents}
 use Rattle.result_log.specs.declared.entry.Entry.{Entry}
-use Rattle.result_log.specs.declared.entry.Entry.TheVariants.{Change, Ask, Proofs, End}
-use Rattle.result_log.specs.declared.fault.FeedStop.{FeedStop}
 use Rattle.result_log.specs.Feeds.{Feed, feed_of}
-use Rattle.kept_lines.specs.LineLists.{NumberedLine, line_number_at, numbered}
-use Rattle.cert_check.specs.LineGrammars.{Ending, whole_at, bad_line, no_proof, short}
-use Rattle.cert_check.specs.declared.outcome.ReportFault.TheVariants.{BadLine, NoProof, Short}
+use Rattle.kept_lines.specs.LineLists.{NumberedLine}
+use Rattle.cert_check.specs.LineGrammars.{Ending}
 use Rattle.cert_check.specs.declared.outcome.CheckOutcome.{CheckOutcome}
-use Rattle.cert_check.specs.declared.outcome.CheckOutcome.TheVariants.{Refused}
-use Rattle.cert_check.specs.Outcomes.{ReportProgressView, first_progress, outcome_at_end}
-use Rattle.cert_check.specs.Outcomes.{outcome_of_feed_stop, outcome_of_stop, outcome_unproved}
-use Rattle.cert_check.specs.Outcomes.{progress_with}
+use Rattle.cert_check.specs.Outcomes.{ReportProgressView, first_progress, PartedReport}
+use Rattle.cert_check.specs.Outcomes.{part_outcome, parts_outcome, lines_outcome, feed_outcome}
+use Rattle.cert_check.specs.Outcomes.{outcome_of_stop}
 use Rattle.cup_sheet.specs.declared.cup.Cup.{Cup}
 use Rattle.cup_sheet.specs.declared.fault.CupStop.{CupStop}
 use Rattle.cup_sheet.specs.declared.fault.CupStop.TheVariants.{Fault, Read, OutOfMemory}
@@ -59,56 +55,42 @@ cup_progress_after cup standing next unsettled =
       unsettled = standing.unsettled + unsettled;
     }
 
+-- the report by its parts
+abbrev pub cup_parted : CupReportInput → PartedReport
+cup_parted report = record {
+  part_at = cup_part_there report;
+  behind = cup_progress_after report.cup;
+  lines = report.lines;
+  end = report.end;
+}
+
 -- what a part comes to: if it is whole, what the rest of the report does
 abbrev pub cup_outcome_by : CupReportInput → ReportProgressView → Ending
     → (ReportProgressView → CheckOutcome) → CheckOutcome
-cup_outcome_by report standing (whole_at next unsettled) onward =
-    onward (cup_progress_after report.cup standing next unsettled)
-cup_outcome_by report standing (bad_line at) onward =
-    Refused (line_number_at report.lines at) BadLine
-cup_outcome_by report standing (no_proof at) onward =
-    Refused (line_number_at report.lines at) NoProof
-cup_outcome_by report standing short onward = Refused report.end Short
-
--- an ask has a part of the report, any other entry has none
-abbrev pub cup_outcome_after : CupReportInput → ReportProgressView → Entry
-    → (ReportProgressView → CheckOutcome) → CheckOutcome
-cup_outcome_after report standing (Change event) onward =
-    onward (progress_with standing (Change event))
-cup_outcome_after report standing Ask onward =
-    cup_outcome_by report standing (cup_part_there report standing) onward
-cup_outcome_after report standing Proofs onward = onward standing
-cup_outcome_after report standing End onward = onward standing
+cup_outcome_by report standing ending onward =
+    part_outcome (cup_parted report) standing ending onward
 
 -- what the report comes to from here on, when these entries of the feed are left
 abbrev pub cup_outcome_from : CupReportInput → List Entry → ReportProgressView → CheckOutcome
-cup_outcome_from report [] standing = outcome_at_end standing (drop standing.at report.lines)
-cup_outcome_from report (entry ∷ entries) standing =
-    cup_outcome_after report standing entry (cup_outcome_from report entries)
+cup_outcome_from report entries standing = parts_outcome (cup_parted report) entries standing
 
 -- ---- the whole input
 
--- what the lines after the record `proofs` come to: the input is read to its end first
+-- what the lines come to as a report on a cup, for a feed of these entries
+abbrev pub judged_cup_lines : Cup → List Entry → List NumberedLine → ℕ → CheckOutcome
+judged_cup_lines cup entries lines end =
+    cup_outcome_from (record { cup = cup; lines = lines; end = end }) entries
+    (first_progress (joint_sheet cup))
+
+-- what the lines after the record `proofs` come to as such a report
 abbrev pub outcome_of_cup_report : Cup → List Entry → List (ℕ × List ℕ) → Result ℕ ReadStop
     → Option CheckOutcome
-outcome_of_cup_report cup entries lines (Ok number) =
-    Some (cup_outcome_from (record { cup = cup; lines = map numbered lines; end = number }) entries
-    (first_progress (joint_sheet cup)))
-outcome_of_cup_report cup entries lines (Err stop) = outcome_of_stop stop
+outcome_of_cup_report cup entries lines ending =
+    lines_outcome (judged_cup_lines cup entries) lines ending
 
--- what a feed and the contents after it come to, by what ended the feed
-abbrev pub outcome_of_cup_close : Cup → List Entry → Contents → Result Entry FeedStop
-    → Option CheckOutcome
-outcome_of_cup_close cup entries rest (Ok (Change event)) = outcome_unproved rest.ending
-outcome_of_cup_close cup entries rest (Ok Ask) = outcome_unproved rest.ending
-outcome_of_cup_close cup entries rest (Ok Proofs) =
-    outcome_of_cup_report cup entries rest.lines rest.ending
-outcome_of_cup_close cup entries rest (Ok End) = outcome_unproved rest.ending
-outcome_of_cup_close cup entries rest (Err stop) = outcome_of_feed_stop stop
-
--- the same of a feed
+-- what a feed and the contents after it come to
 abbrev pub outcome_of_cup_feed : Cup → Feed → Option CheckOutcome
-outcome_of_cup_feed cup feed = outcome_of_cup_close cup feed.entries feed.rest feed.close
+outcome_of_cup_feed cup feed = feed_outcome (judged_cup_lines cup) feed
 
 -- what contents come to as a feed over all groups of the cup and what follows it
 abbrev pub outcome_after_cup : Cup → Contents → Option CheckOutcome

@@ -1,6 +1,5 @@
 -- What the functions promise each other and the crates above: no promise of the program rests on
 -- these words but on those of CupReportTruths. Read in this order.
-pub mod CupLineRanges
 pub mod GroupPlaces
 pub mod CupGoes
 pub mod CupTreeCalls

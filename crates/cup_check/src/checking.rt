@@ -10,7 +10,7 @@ ghost use Rattle.cup_check.specs.inside.CupCheckCalls.{ChecksCup};
 ghost use Rattle.cup_check.specs.inside.CupGoes.{GoesOverCup};
 
 use crate::report::CupReport;
-use cert_check::{Accepted, CheckStop, CheckStopAt, PartRead};
+use cert_check::{Accepted, CheckStop, CheckStopAt, PartRead, by_number};
 use cup_grammar::accepted_cup_parts_are_true;
 use cup_sheet::Cup;
 use kept_lines::LineList;
@@ -49,18 +49,11 @@ pub fn check_cup(
             rows: u32::from(report.clubs()),
             unsettled: found.unsettled,
         }),
-        Err(CheckStopAt::BadLine(at)) => Err(CheckStop::BadLine {
-            number: lines.number(at),
-        }),
-        Err(CheckStopAt::NoProof(at)) => Err(CheckStop::NoProof {
-            number: lines.number(at),
-        }),
-        Err(CheckStopAt::Short) => Err(CheckStop::Short),
-        Err(CheckStopAt::OutOfMemory) => Err(CheckStop::OutOfMemory),
+        Err(stop) => Err(by_number(stop, lines)),
     }
 }
 
-// Hands on what the seasons keep: scores and deductions that may be.
+// A read of a season tells that its scores and deductions are within the limits: so are all.
 fn recall_results(seasons: &[Season])
     ensures { AreCupResults seasons.now }
 {

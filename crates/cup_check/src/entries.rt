@@ -7,12 +7,12 @@ ghost use Rattle.cert_check.specs.inside.InputCalls.{IsEntryOf};
 ghost use Rattle.cup_sheet.specs.Cups.{IsCup};
 ghost use Rattle.cup_sheet.specs.CupFeeds.{joint_sheet};
 ghost use Rattle.cup_check.specs.CupOutcomes.{cup_outcome_from};
-ghost use Rattle.cup_check.specs.inside.CupInputCalls.{GoesOverCupEntry, IsOnWay, cup_report_read};
+ghost use Rattle.cup_check.specs.inside.CupInputCalls.{GoesOverCupEntry, IsProgressWithin};
+ghost use Rattle.cup_check.specs.inside.CupInputCalls.{cup_report_read};
 
 use crate::checking::check_cup;
-use crate::progress::CupProgress;
-use crate::stops::refused_by;
-use cert_check::{CheckOutcome, ReportLines, check_end};
+use crate::progress::CupReportProgress;
+use cert_check::{CheckOutcome, ReportLines, check_end, refused_by};
 use cup_feed::seasons_of;
 use cup_sheet::Cup;
 use league_core::{OutOfMemory, Sheet};
@@ -36,7 +36,7 @@ pub fn cup_report_outcome(
         ≡ cup_outcome_from (cup_report_read cup.now told.now) entries.now
         (first_progress (joint_sheet cup.now))) }
 {
-    let mut standing = CupProgress::begin(alloc, sheet)?;
+    let mut standing = CupReportProgress::begin(alloc, sheet)?;
     for entry in entries {
         if let Some(outcome) = take_entry(alloc, cup, told, entry, &mut standing)? {
             return Ok(outcome);
@@ -51,18 +51,19 @@ fn take_entry(
     cup: &Cup,
     told: &ReportLines,
     entry: &Entry,
-    standing: &mut CupProgress,
+    standing: &mut CupReportProgress,
 ) -> Result<Option<CheckOutcome>, OutOfMemory>
     requires cup { IsCup cup.now }
     requires entry { IsEntryOf (joint_sheet cup.now) entry.now }
-    requires way { IsOnWay (joint_sheet cup.now) (length told.now.lines) input_limit standing.old }
+    requires way { IsProgressWithin (joint_sheet cup.now) (length told.now.lines) input_limit
+        standing.old }
     ensures goes { IfOk result (λ found.
         GoesOverCupEntry (cup_report_read cup.now told.now) standing.old standing.new entry.now
         found) }
     ensures way { (entries : ℕ)
-        → IsOnWay (joint_sheet cup.now) (length told.now.lines) entries standing.old
-        → IfOk result (λ _. IsOnWay (joint_sheet cup.now) (length told.now.lines) (entries + 1)
-        standing.new) }
+        → IsProgressWithin (joint_sheet cup.now) (length told.now.lines) entries standing.old
+        → IfOk result (λ _. IsProgressWithin (joint_sheet cup.now) (length told.now.lines)
+        (entries + 1) standing.new) }
 {
     match entry {
         Entry::Change(event) => {
@@ -81,17 +82,18 @@ fn take_part(
     alloc: Global,
     cup: &Cup,
     told: &ReportLines,
-    standing: &mut CupProgress,
+    standing: &mut CupReportProgress,
 ) -> Result<Option<CheckOutcome>, OutOfMemory>
     requires cup { IsCup cup.now }
-    requires way { IsOnWay (joint_sheet cup.now) (length told.now.lines) input_limit standing.old }
+    requires way { IsProgressWithin (joint_sheet cup.now) (length told.now.lines) input_limit
+        standing.old }
     ensures goes { IfOk result (λ found.
         GoesOverCupEntry (cup_report_read cup.now told.now) standing.old standing.new Entry.Ask
         found) }
     ensures way { (entries : ℕ)
-        → IsOnWay (joint_sheet cup.now) (length told.now.lines) entries standing.old
-        → IfOk result (λ _. IsOnWay (joint_sheet cup.now) (length told.now.lines) (entries + 1)
-        standing.new) }
+        → IsProgressWithin (joint_sheet cup.now) (length told.now.lines) entries standing.old
+        → IfOk result (λ _. IsProgressWithin (joint_sheet cup.now) (length told.now.lines)
+        (entries + 1) standing.new) }
 {
     let seasons = seasons_of(alloc, cup, &standing.season)?;
     let (epoch, from) = (standing.epoch, standing.at);
@@ -110,7 +112,7 @@ fn take_part(
 fn ended(
     alloc: Global,
     told: &ReportLines,
-    standing: &CupProgress,
+    standing: &CupReportProgress,
 ) -> Result<CheckOutcome, OutOfMemory>
     requires { standing.now.at ≤ length told.now.lines }
     ensures { IfOk result (λ outcome. outcome

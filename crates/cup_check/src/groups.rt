@@ -8,7 +8,7 @@ ghost use Rattle.cup_check.specs.inside.CupSideCalls.{are_others};
 
 use crate::place::GroupPlace;
 use crate::report::CupReport;
-use cup_groups::{group_start, listed_groups};
+use cup_groups::{club_count, group_start, listed_groups};
 use league_core::Claim;
 
 impl<'a> CupReport<'a> {
@@ -24,8 +24,7 @@ impl<'a> CupReport<'a> {
         ensures { result ≡ clubs_together self.now.basis.cup.groups }
     {
         self.recall_invariant();
-        let last = self.group(self.group_count() - 1);
-        last.start.club + last.sheet.clubs.len() as u8
+        club_count(self.cup)
     }
 
     /// The group with a number, from 0.

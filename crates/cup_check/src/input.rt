@@ -13,8 +13,9 @@ ghost use Rattle.cup_check.specs.inside.CupInputCalls.{outcome_after_cup_feed};
 
 use crate::entries::cup_report_outcome;
 use crate::outcome::CupOutcome;
-use crate::stops::{short, stopped};
-use cert_check::{CheckFailure, CheckOutcome, FeedSoFar, LinesStop, read_feed, read_lines};
+use cert_check::{
+    CheckFailure, CheckOutcome, FeedSoFar, LinesStop, read_feed, read_lines, short, stopped,
+};
 use cup_feed::joint_sheet;
 use cup_sheet::{Cup, CupStop, read_cup};
 use kept_lines::LineList;
@@ -101,7 +102,7 @@ fn check_joint_feed<S: Source>(
         Ok(feed) => {
             if feed.proofs {
                 let entries = feed.entries.as_slice();
-                let course = CupFeed {
+                let course = CupCourse {
                     cup,
                     sheet,
                     entries,
@@ -119,7 +120,7 @@ fn check_joint_feed<S: Source>(
 
 // What a report is of: a cup, its joint sheet, and the entries of its feed.
 #[derive(Clone, Copy)]
-struct CupFeed<'a> {
+struct CupCourse<'a> {
     cup: &'a Cup,
     sheet: &'a Sheet,
     entries: &'a [Entry],
@@ -128,7 +129,7 @@ struct CupFeed<'a> {
 // What comes after the feed.
 fn check_cup_report<S: Source>(
     alloc: Global,
-    feed: CupFeed,
+    feed: CupCourse,
     reader: &mut LineReader,
     source: &mut S,
 ) -> Result<CheckOutcome, CheckFailure>

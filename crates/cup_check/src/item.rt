@@ -7,10 +7,9 @@ ghost use Rattle.cup_grammar.specs.CupDues.{club_row, finish_head};
 ghost use Rattle.cup_grammar.specs.CupExpected.{dues_of_cup_word};
 ghost use Rattle.cup_check.specs.inside.CupGoes.{GoesAfterInCup, GoesOverCup};
 
-use crate::refuted::CupSide;
+use crate::claimed_side::{ClaimedSide, inside_of, outside_of};
 use crate::report::CupReport;
 use cert_check::{CheckStopAt, PartRead};
-use league_core::Claim;
 use line_tokens::RowWord;
 
 impl<'a> CupReport<'a> {
@@ -27,32 +26,26 @@ impl<'a> CupReport<'a> {
         Ok(PartRead { next, unsettled })
     }
 
+    // What the word asks for.
     fn behind(&self, from: usize, club: u8, word: RowWord) -> Result<usize, CheckStopAt>
         requires room { from ≤ length self.now.tokens }
         requires in_range { club < clubs_together self.now.basis.cup.groups }
         ensures { GoesAfterInCup self.now from (dues_of_cup_word club word) result }
     {
-        let inside = CupSide {
-            claim: Claim::Inside,
-            club,
-        };
-        let outside = CupSide {
-            claim: Claim::Outside,
-            club,
-        };
         match word {
-            RowWord::Clinched => self.refuted_side(from, outside),
-            RowWord::Lost => self.refuted_side(from, inside),
-            RowWord::Possible => self.two_finishes(from, inside, outside),
+            RowWord::Clinched => self.refuted_side(from, outside_of(club)),
+            RowWord::Lost => self.refuted_side(from, inside_of(club)),
+            RowWord::Possible => self.two_finishes(from, inside_of(club), outside_of(club)),
             RowWord::Unsettled => self.both_parts(from, club),
         }
     }
 
+    // A joint finish for each side.
     fn two_finishes(
         &self,
         from: usize,
-        inside: CupSide,
-        outside: CupSide,
+        inside: ClaimedSide,
+        outside: ClaimedSide,
     ) -> Result<usize, CheckStopAt>
         requires room { from ≤ length self.now.tokens }
         requires inside { inside.club < clubs_together self.now.basis.cup.groups }

@@ -1,38 +1,32 @@
-//! Joint finishes in a report, score by score through all groups, and the lots that end them.
+//! Joint finishes in a report, score by score through all groups.
 
-ghost use Rattle.std.specs.Prelude.{◌≡◌, ◌<◌, ◌≤◌, ◌+◌, ◌^◌, ℕ, List, Option, Some, None, IfOk};
+ghost use Rattle.std.specs.Prelude.{◌≡◌, ◌<◌, ◌≤◌, ◌+◌, ◌^◌, ℕ, List, Option, None, IfOk};
 ghost use Rattle.std.specs.Prelude.{IfSome, IsTrue, false, get_or, is_some, length};
 ghost use Rattle.league_core.specs.declared.season.Score.{Score};
 ghost use Rattle.league_core.specs.declared.question.Claim.{Claim};
-ghost use Rattle.league_core.specs.game.Ranking.{are_lots};
 ghost use Rattle.cup_sheet.specs.CupFeeds.{joint_sheet};
-ghost use Rattle.cup_sheet.specs.Cups.{AreSeasonsOf, clubs_together};
-ghost use Rattle.cup_sheet.specs.Qualifying as meaning;
-ghost use Rattle.cert_check.specs.ExpectedItems.{is_ending, lots_if_drawn};
-ghost use Rattle.cup_grammar.specs.declared.token.CupToken.{CupToken};
+ghost use Rattle.cup_sheet.specs.Cups.{clubs_together};
+ghost use Rattle.cert_check.specs.ExpectedItems.{is_ending};
 ghost use Rattle.cup_grammar.specs.PlacedGroups.{CupBasis};
-ghost use Rattle.cup_grammar.specs.CupDues.{is_on_claimed_side, lots, score, scores_of_groups};
-ghost use Rattle.cup_grammar.specs.CupDues.{whole_joint_finish};
+ghost use Rattle.cup_grammar.specs.CupDues.{score, whole_joint_finish};
 ghost use Rattle.cup_grammar.specs.CupExpected.{after_in_cup};
 ghost use Rattle.cup_grammar.specs.inside.CupRowTruths.{counts_in_cup};
 ghost use Rattle.cup_check.specs.inside.CupGoes.{GoesInCup, IsNextInCup};
-ghost use Rattle.cup_check.specs.inside.JointCalls.{AreGroupsOver, GoesOverGroup, GoesOverScore};
-ghost use Rattle.cup_check.specs.inside.JointCalls.{IsGroupOver, after_cup_score_if};
-ghost use Rattle.cup_check.specs.inside.JointCalls.{lots_of_cup_token};
+ghost use Rattle.cup_check.specs.inside.JointCalls.{GoesOverGroup, GoesOverScore, HasScoresOver};
+ghost use Rattle.cup_check.specs.inside.JointCalls.{after_cup_score_if};
 
+use crate::claimed_side::ClaimedSide;
 use crate::place::GroupPlace;
-use crate::refuted::CupSide;
 use crate::report::CupReport;
 use cert_check::CheckStopAt;
-use cup_finish::qualifies_at;
 use cup_grammar::CupToken;
 use cup_text::CupLine;
-use league_core::{Claim, Event, Listing, Lots, OutOfMemory, Score, Season};
+use league_core::{Event, Listing, Score, Season};
 
 impl<'a> CupReport<'a> {
     /// A joint finish after its head: a score for each fixture of the cup that has none, and lots
     /// with which the club is on the side.
-    pub fn joint_finish(&self, from: usize, side: CupSide) -> Result<usize, CheckStopAt>
+    pub fn joint_finish(&self, from: usize, side: ClaimedSide) -> Result<usize, CheckStopAt>
         requires room { from ≤ length self.now.tokens }
         requires in_range { side.club < clubs_together self.now.basis.cup.groups }
         ensures { GoesInCup self.now from
@@ -77,7 +71,7 @@ impl<'a> CupReport<'a> {
         requires fixtures { length finish.old.scores ≡ length group.now.sheet.fixtures }
         ensures goes { GoesOverScore self.now from group.now.start.fixture fixture
             finish.old.scores finish.new.scores result }
-        ensures over { IfOk result (λ _. IsGroupOver finish.old finish.new) }
+        ensures over { IfOk result (λ _. HasScoresOver finish.old finish.new) }
     {
         if finish.score(fixture).is_some() {
             return Ok(from);
@@ -95,7 +89,7 @@ impl<'a> CupReport<'a> {
         fixture: u16,
         finish: &mut Season,
     ) -> Result<usize, CheckStopAt>
-        requires fits { at + 1 < 2 ^ 64 }
+        requires room { at + 1 < 2 ^ 64 }
         requires counted { IsTrue (counts_in_cup token.now) }
         requires of_cup { group.now.sheet.goal_limit ≡ (joint_sheet self.now.basis.cup).goal_limit }
         requires in_range { fixture < length finish.old.scores }
@@ -103,7 +97,7 @@ impl<'a> CupReport<'a> {
         requires unplayed { is_some (get_or finish.old.scores fixture None) ≡ false }
         ensures goes { (from : ℕ) → IsNextInCup self.now from at token.now → GoesOverScore self.now
             from group.now.start.fixture fixture finish.old.scores finish.new.scores result }
-        ensures over { IfOk result (λ _. IsGroupOver finish.old finish.new) }
+        ensures over { IfOk result (λ _. HasScoresOver finish.old finish.new) }
     {
         match score_in(token, group, fixture) {
             Some(score) => {
@@ -112,115 +106,6 @@ impl<'a> CupReport<'a> {
                 Ok(at + 1)
             }
             None => Err(CheckStopAt::BadLine(at)),
-        }
-    }
-
-    fn joint_lots(
-        &self,
-        from: usize,
-        side: CupSide,
-        finishes: &[Season],
-    ) -> Result<usize, CheckStopAt>
-        requires room { from ≤ length self.now.tokens }
-        requires in_range { side.club < clubs_together self.now.basis.cup.groups }
-        requires over { AreGroupsOver self.now.basis.seasons finishes.now }
-        ensures { GoesInCup self.now from
-            (lots side.claim side.club (scores_of_groups finishes.now)) result }
-    {
-        let (at, token) = self.next(from)?;
-        self.lots_line(at, &token, side, finishes)
-    }
-
-    // Lots in a line that counts.
-    fn lots_line(
-        &self,
-        at: usize,
-        token: &CupToken,
-        side: CupSide,
-        finishes: &[Season],
-    ) -> Result<usize, CheckStopAt>
-        requires fits { at + 1 < 2 ^ 64 }
-        requires counted { IsTrue (counts_in_cup token.now) }
-        requires in_range { side.club < clubs_together self.now.basis.cup.groups }
-        requires over { AreGroupsOver self.now.basis.seasons finishes.now }
-        ensures { (from : ℕ) → IsNextInCup self.now from at token.now → GoesInCup self.now from
-            (lots side.claim side.club (scores_of_groups finishes.now)) result }
-    {
-        match self.cup_lots_in(token)? {
-            Some(drawn) => self.end_with_lots(at, side, finishes, &drawn),
-            None => Err(CheckStopAt::BadLine(at)),
-        }
-    }
-
-    // The joint finish ends with lots that a line gave.
-    fn end_with_lots(
-        &self,
-        at: usize,
-        side: CupSide,
-        finishes: &[Season],
-        drawn: &Lots,
-    ) -> Result<usize, CheckStopAt>
-        requires fits { at + 1 < 2 ^ 64 }
-        requires in_range { side.club < clubs_together self.now.basis.cup.groups }
-        requires over { AreGroupsOver self.now.basis.seasons finishes.now }
-        requires drawn { IsTrue (are_lots (clubs_together self.now.basis.cup.groups) drawn.now) }
-        ensures { (from : ℕ) (token : CupToken) → IsNextInCup self.now from at token
-            → lots_of_cup_token (clubs_together self.now.basis.cup.groups) token ≡ Some drawn.now
-            → GoesInCup self.now from
-            (lots side.claim side.club (scores_of_groups finishes.now)) result }
-    {
-        self.recall_invariant();
-        if self.is_on_side(side, finishes, drawn)? {
-            Ok(at + 1)
-        } else {
-            Err(CheckStopAt::NoProof(at))
-        }
-    }
-
-    // The lots that a line that counts gives.
-    fn cup_lots_in(&self, token: &CupToken) -> Result<Option<Lots>, OutOfMemory>
-        requires { IsTrue (counts_in_cup token.now) }
-        ensures lots { IfOk result (λ found. found
-            ≡ lots_of_cup_token (clubs_together self.now.basis.cup.groups) token.now) }
-        ensures drawn { IfOk result (λ found. IfSome found
-            (λ it. IsTrue (are_lots (clubs_together self.now.basis.cup.groups) it))) }
-    {
-        match token {
-            CupToken::Proof(CupLine::Lots(told)) => self.drawn(told.list.as_slice()),
-            _ => Ok(None),
-        }
-    }
-
-    fn drawn(&self, order: &[u8]) -> Result<Option<Lots>, OutOfMemory>
-        ensures { IfOk result (λ found. found ≡ lots_if_drawn
-            (are_lots (clubs_together self.now.basis.cup.groups) order.now) order.now) }
-    {
-        if order.len() != self.clubs() as usize {
-            return Ok(None);
-        }
-        match Lots::new(Vec::from_slice(self.alloc, order)?) {
-            Ok(lots) => Ok(Some(lots)),
-            Err(_) => Ok(None),
-        }
-    }
-
-    // Whether the club is on the side with these finishes and lots.
-    fn is_on_side(
-        &self,
-        side: CupSide,
-        finishes: &[Season],
-        drawn: &Lots,
-    ) -> Result<bool, OutOfMemory>
-        requires in_range { side.club < clubs_together self.now.basis.cup.groups }
-        requires finishes { AreSeasonsOf self.now.basis.cup.groups finishes.now }
-        requires drawn { IsTrue (are_lots (clubs_together self.now.basis.cup.groups) drawn.now) }
-        ensures { IfOk result (λ is. is ≡ is_on_claimed_side side.claim
-            (meaning.qualifies_at self.now.basis.cup finishes.now drawn.now side.club)) }
-    {
-        let qualifies = qualifies_at(self.alloc, self.cup, finishes, drawn, side.club)?;
-        match side.claim {
-            Claim::Inside => Ok(qualifies),
-            Claim::Outside => Ok(!qualifies),
         }
     }
 }

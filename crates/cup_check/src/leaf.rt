@@ -1,11 +1,11 @@
 //! Lines about a group, by the group's own numbers.
 
 ghost use Rattle.std.specs.Prelude.{◌≡◌, IfOk, IsTrue, option_map};
-ghost use Rattle.cup_text.specs.CupForms.{is_rising};
+ghost use Rattle.cup_sheet.specs.CupLimits.{most_cup_clubs};
+ghost use Rattle.cup_text.specs.CupRanges.{is_cup_leaf, is_cup_line, is_cup_reason};
+ghost use Rattle.cup_text.specs.CupRanges.{is_rising_below};
 ghost use Rattle.cup_grammar.specs.PlacedGroups.{own_leaf, own_node, own_reason, own_set};
 ghost use Rattle.cup_grammar.specs.PlacedGroups.{refuted_node, split_node};
-ghost use Rattle.cup_check.specs.inside.CupLineRanges.{has_rising_cut, is_leaf_in_range};
-ghost use Rattle.cup_check.specs.inside.CupLineRanges.{is_line_in_range};
 ghost use Rattle.cup_check.specs.inside.CupTreeCalls.{node_seen, own_numbers};
 
 use crate::place::GroupPlace;
@@ -27,7 +27,7 @@ pub enum GroupNode {
 impl<'a> GroupPlace<'a> {
     // The clubs of a cut as a set, if all are of the group.
     fn own_set(&self, alloc: Global, clubs: &[u8]) -> Result<Option<ClubSet>, OutOfMemory>
-        requires { IsTrue (is_rising clubs.now) }
+        requires { IsTrue (is_rising_below most_cup_clubs clubs.now) }
         ensures { IfOk result (λ found. found ≡ own_set self.now clubs.now) }
     {
         self.recall_place();
@@ -53,7 +53,7 @@ impl<'a> GroupPlace<'a> {
     }
 
     fn own_reason(&self, alloc: Global, reason: &CupReason) -> Result<Option<Reason>, OutOfMemory>
-        requires { IsTrue (has_rising_cut reason.now) }
+        requires { IsTrue (is_cup_reason reason.now) }
         ensures { IfOk result (λ found. found ≡ own_reason self.now reason.now) }
     {
         match reason {
@@ -72,7 +72,7 @@ impl<'a> GroupPlace<'a> {
     }
 
     fn own_leaf(&self, alloc: Global, leaf: &CupLeaf) -> Result<Option<GroupReason>, OutOfMemory>
-        requires { IsTrue (is_leaf_in_range leaf.now) }
+        requires { IsTrue (is_cup_leaf leaf.now) }
         ensures { IfOk result (λ found. found ≡ own_leaf self.now leaf.now) }
     {
         match leaf {
@@ -99,7 +99,7 @@ impl<'a> GroupPlace<'a> {
         kind: TreeKind,
         line: &CupLine,
     ) -> Result<Option<GroupNode>, OutOfMemory>
-        requires { IsTrue (is_line_in_range line.now) }
+        requires { IsTrue (is_cup_line line.now) }
         ensures { IfOk result (λ found. option_map node_seen found
             ≡ own_node kind self.now line.now) }
     {
@@ -111,7 +111,7 @@ impl<'a> GroupPlace<'a> {
 
     // A node of a refutation.
     fn plain_node(&self, alloc: Global, line: &CupLine) -> Result<Option<GroupNode>, OutOfMemory>
-        requires { IsTrue (is_line_in_range line.now) }
+        requires { IsTrue (is_cup_line line.now) }
         ensures { IfOk result (λ found. option_map node_seen found
             ≡ own_node TreeKind.Refutation self.now line.now) }
     {
@@ -124,7 +124,7 @@ impl<'a> GroupPlace<'a> {
 
     // A node of a tree on which the budget was spent.
     fn spent_node(&self, alloc: Global, line: &CupLine) -> Result<Option<GroupNode>, OutOfMemory>
-        requires { IsTrue (is_line_in_range line.now) }
+        requires { IsTrue (is_cup_line line.now) }
         ensures { IfOk result (λ found. option_map node_seen found
             ≡ own_node TreeKind.Spent self.now line.now) }
     {

@@ -8,12 +8,15 @@
 #![tactic(auto)]
 
 mod checking;
+mod claimed_side;
 mod entries;
 mod groups;
 mod input;
 mod item;
 mod joint;
+mod keys;
 mod leaf;
+mod lots;
 mod outcome;
 mod parts;
 mod place;
@@ -22,8 +25,10 @@ mod reason;
 mod refuted;
 mod report;
 mod rows;
-mod stops;
+mod side_trees;
+mod spent;
 mod tree;
+mod walk;
 
 pub use checking::check_cup;
 pub use input::check_cup_input;

@@ -9,7 +9,7 @@ use std::marker::Model;
 
 /// How far a report on a cup is read, and the feed beside it.
 #[derive(Drop)]
-pub struct CupProgress {
+pub struct CupReportProgress {
     /// The season of the cup's joint sheet so far.
     pub season: Season,
     /// How many events of the feed came.
@@ -21,7 +21,7 @@ pub struct CupProgress {
     pub unsettled: u64,
 }
 
-impl Model for CupProgress {
+impl Model for CupReportProgress {
     ghost use Rattle.cert_check.specs.Outcomes.{ReportProgressView};
 
     ghost Value = { ReportProgressView };
@@ -35,12 +35,12 @@ impl Model for CupProgress {
     } };
 }
 
-impl CupProgress {
+impl CupReportProgress {
     /// Before the first entry of the feed of this joint sheet, and the first line of the report.
-    pub fn begin(alloc: Global, sheet: &Sheet) -> Result<CupProgress, OutOfMemory>
+    pub fn begin(alloc: Global, sheet: &Sheet) -> Result<CupReportProgress, OutOfMemory>
         ensures { IfOk result (λ standing. standing ≡ first_progress sheet.now) }
     {
-        Ok(CupProgress {
+        Ok(CupReportProgress {
             season: Season::unplayed(alloc, sheet.clubs.len(), sheet.fixtures.len())?,
             epoch: 0,
             at: 0,

@@ -3,9 +3,9 @@
 ghost use Rattle.std.specs.Prelude.{◌≡◌, ◌<◌, ◌≤◌, ◌+◌, ◌^◌, ◌∷◌, ℕ, List, None, length, drop};
 ghost use Rattle.std.specs.Prelude.{IfOk, IfSome, IsTrue};
 ghost use Rattle.cup_grammar.specs.CupDues.{CupDue};
+ghost use Rattle.cup_grammar.specs.inside.CupParts.{is_token_in_range};
 ghost use Rattle.cup_check.specs.inside.CupGoes.{FindsNextInCup, IsJudgedInCup, IsNextInCup};
 ghost use Rattle.cup_check.specs.inside.CupGoes.{cup_ending_from};
-ghost use Rattle.cup_check.specs.inside.CupLineRanges.{is_token_in_range};
 
 use cert_check::CheckStopAt;
 use cup_grammar::{CupToken, counts_in_cup, cup_token_at};
@@ -64,7 +64,7 @@ impl<'a> CupReport<'a> {
         requires { at < length self.now.tokens }
         ensures there { IfOk result
             (λ token. drop at self.now.tokens ≡ token ∷ drop (at + 1) self.now.tokens) }
-        ensures in_range { IfOk result (λ token. IsTrue (is_token_in_range token)) }
+        ensures ranges { IfOk result (λ token. IsTrue (is_token_in_range token)) }
     {
         cup_token_at(self.alloc, self.lines, at)
     }
@@ -84,8 +84,8 @@ impl<'a> CupReport<'a> {
 
     // What the line at a position is, if it counts.
     fn counted(&self, at: usize) -> Result<Option<CupToken>, OutOfMemory>
-        requires in_range { at < length self.now.tokens }
-        requires fits { at + 1 < 2 ^ 64 }
+        requires within { at < length self.now.tokens }
+        requires room { at + 1 < 2 ^ 64 }
         ensures found { IfOk result (λ found. IfSome found (IsNextInCup self.now at at)) }
         ensures passed { IfOk result (λ found. found ≡ None
             → (due : CupDue) (dues : List CupDue) (unsettled : ℕ)

@@ -3,9 +3,10 @@
 ghost use Rattle.std.specs.Prelude.{◌≡◌, ◌<◌, ◌≤◌, ◌+◌, ◌^◌, ℕ, IsTrue, IfOk, IfSome};
 ghost use Rattle.std.specs.Prelude.{length};
 ghost use Rattle.cup_sheet.specs.Cups.{clubs_together};
+ghost use Rattle.cup_text.specs.CupItems.{cup_club_name};
 ghost use Rattle.cert_check.specs.inside.Calls.{unsettled_in};
 ghost use Rattle.cup_grammar.specs.CupDues.{ask_row, club_row};
-ghost use Rattle.cup_grammar.specs.CupExpected.{after_in_cup, name_in_cup, promised_of_club};
+ghost use Rattle.cup_grammar.specs.CupExpected.{after_in_cup, promised_of_club};
 ghost use Rattle.cup_grammar.specs.inside.CupRowTruths.{counts_in_cup};
 ghost use Rattle.cup_check.specs.inside.CupGoes.{GoesByClubWord, GoesInCup, IsNextInCup};
 ghost use Rattle.cup_check.specs.inside.CupGoes.{with_unsettled_club};
@@ -24,14 +25,12 @@ impl<'a> CupReport<'a> {
         ensures { GoesInCup self.now from ask_row result }
     {
         let (at, token) = self.next(from)?;
-        let behind = self.ask_line(at, &token);
-        drop(token);
-        behind
+        self.ask_line(at, &token)
     }
 
     // Goes on behind a line that has to be the row of the ask.
     fn ask_line(&self, at: usize, token: &CupToken) -> Result<usize, CheckStopAt>
-        requires last { at + 1 < 2 ^ 64 }
+        requires room { at + 1 < 2 ^ 64 }
         requires counted { IsTrue (counts_in_cup token.now) }
         ensures { (from : ℕ) → IsNextInCup self.now from at token.now
             → GoesInCup self.now from ask_row result }
@@ -43,6 +42,7 @@ impl<'a> CupReport<'a> {
         }
     }
 
+    // A line that counts is the row of the ask.
     fn is_row_of_ask(&self, token: &CupToken) -> Result<bool, OutOfMemory>
         requires { IsTrue (counts_in_cup token.now) }
         ensures { IfOk result (λ is.
@@ -64,9 +64,7 @@ impl<'a> CupReport<'a> {
         ensures { GoesByClubWord self.now from club result }
     {
         let (at, token) = self.next(from)?;
-        let found = self.club_line(at, &token, club);
-        drop(token);
-        found
+        self.club_line(at, &token, club)
     }
 
     // Goes on behind a line that has to be the row of a club.
@@ -76,7 +74,7 @@ impl<'a> CupReport<'a> {
         token: &CupToken,
         club: u8,
     ) -> Result<(usize, RowWord), CheckStopAt>
-        requires last { at + 1 < 2 ^ 64 }
+        requires room { at + 1 < 2 ^ 64 }
         requires counted { IsTrue (counts_in_cup token.now) }
         requires in_range { club < clubs_together self.now.basis.cup.groups }
         ensures { (from : ℕ) → IsNextInCup self.now from at token.now
@@ -109,7 +107,7 @@ impl<'a> CupReport<'a> {
     // The name of a club of the cup.
     fn name(&self, club: u8) -> &str
         requires { club < clubs_together self.now.basis.cup.groups }
-        ensures { result.now ≡ name_in_cup self.now.basis.cup club }
+        ensures { result.now ≡ cup_club_name self.now.basis.cup club }
     {
         self.recall_invariant();
         match self.group_with(club) {

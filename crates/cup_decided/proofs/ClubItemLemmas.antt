@@ -10,7 +10,7 @@ use Rattle.cup_laws.specs.inside.CupTruths.{AreCupResults}
 use Rattle.cup_laws.proofs.CupTruthLemmas.{clinched_is_true, lost_is_true}
 use Rattle.cup_text.specs.declared.cup_line.CupLine.{CupLine}
 use Rattle.cup_text.specs.CupItems.{IsRefutedAtTurn, joint_lines}
-use Rattle.cup_text.specs.CupTexts.{RefutesInCup, ShowsInCup}
+use Rattle.cup_answers.specs.CupTexts.{RefutesInCup, ShowsInCup}
 use Rattle.answer_rows.specs.declared.word.Word.{Word}
 use Rattle.answer_rows.specs.declared.word.Word.TheVariants.{Clinched, Lost, Possible}
 use Rattle.cup_decided.proofs.TextTruthLemmas.{text_refutes}

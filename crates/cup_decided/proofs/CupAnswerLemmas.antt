@@ -8,8 +8,8 @@ use Rattle.answer_rows.specs.Rows.{ask_row, verdict_row}
 use Rattle.cup_sheet.specs.declared.cup.Cup.{Cup}
 use Rattle.cup_sheet.specs.Cups.{AreSeasonsOf, IsCup, clubs_together}
 use Rattle.cup_laws.specs.inside.CupTruths.{AreCupResults}
-use Rattle.cup_text.specs.CupTexts.{IsCupItemText, IsGroupsText, cup_club_name}
-use Rattle.cup_text.specs.CupTexts.{text_of_cup_lines}
+use Rattle.cup_text.specs.CupItems.{cup_club_name}
+use Rattle.cup_answers.specs.CupTexts.{IsCupItemText, IsGroupsText, text_of_cup_lines}
 use Rattle.cup_decided.proofs.ClubItemLemmas.{club_has_item}
 
 -- ---- items one after another

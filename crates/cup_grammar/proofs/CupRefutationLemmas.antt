@@ -11,13 +11,16 @@ use Rattle.std.proofs.lemmas.List.Elements.{All-cons, All-nil}
 use Rattle.std.proofs.lemmas.List.FromFn.{get_or-range_with_len, length-range_with_len}
 use Rattle.league_core.specs.declared.question.Claim.{Claim}
 use Rattle.league_core.specs.game.Sheets.{clubs_of}
+use Rattle.cert_text.specs.Ranges.{is_one_of}
 use Rattle.cert_check.specs.LineGrammars.{go}
 use Rattle.cert_check.proofs.NextLemmas.{bad-go, go-if, parts-split}
 use Rattle.cup_sheet.specs.CupAnswers.{AreRising, IsListedGroup, IsRefutedForAll}
 use Rattle.cup_sheet.specs.CupAnswers.{IsRefutedInGroup, listed_groups}
+use Rattle.cup_sheet.specs.CupLimits.{most_groups}
 use Rattle.cup_sheet.specs.GroupQuestions.{GroupQuestion}
 use Rattle.cup_sheet.specs.KeyBounds.{others_kind}
 use Rattle.cup_text.specs.CupForms.{is_rising, is_rising_from}
+use Rattle.cup_text.specs.CupRanges.{is_cup_line}
 use Rattle.cup_text.specs.declared.cup_line.CupLine.{CupLine}
 use Rattle.cup_text.specs.declared.cup_line.CupLine.TheVariants as line
 use Rattle.cup_grammar.specs.declared.token.CupToken.{CupToken}
@@ -26,7 +29,6 @@ use Rattle.cup_grammar.specs.PlacedGroups.{placed_groups, with_group}
 use Rattle.cup_grammar.specs.CupDues.{CupDue, after_groups_in, after_key_line, groups_line}
 use Rattle.cup_grammar.specs.CupDues.{may_be_listed, others_due, side_trees_due, tree_head}
 use Rattle.cup_grammar.specs.inside.CupParts.{IsRefutedWithKey, cup_parts, state_of_group}
-use Rattle.cup_grammar.specs.inside.CupParts.{HasRisingGroups}
 use Rattle.cup_grammar.proofs.GroupNodeLemmas.{ArePartsOf, left_part, left_parts}
 use Rattle.cup_grammar.proofs.PlacedGroupLemmas.{club_of_group, placed_there}
 
@@ -141,13 +143,13 @@ listed_shown basis claim key mine (number ∷ numbers) tokens within others part
 -- the list of groups with the refutations after it
 groups_shown : (basis : CupBasis) (claim : Claim) (club : ℕ) (key : List ℤ) (found : Option
     PlacedGroup)
-    (it : CupLine) (more : List CupDue) (tokens : List CupToken) → HasRisingGroups it
+    (it : CupLine) (more : List CupDue) (tokens : List CupToken) → is_cup_line it ≡ true
     → group_with (placed_groups basis) club ≡ found
     → after_groups_in basis claim club key found it ≡ go true more → ArePartsOf basis more tokens
     → IsRefutedWithKey basis claim club key
-groups_shown basis claim club key None it more tokens rises is goes parts =
+groups_shown basis claim club key None it more tokens range is goes parts =
     absurd (bad-go true more goes)
-groups_shown basis claim club key (Some mine) (line.Groups groups) more tokens rises is goes parts =
+groups_shown basis claim club key (Some mine) (line.Groups groups) more tokens range is goes parts =
     let placed = placed_groups basis in
     let numbers = groups.list in
     let listed = groups_at placed numbers in
@@ -169,21 +171,22 @@ groups_shown basis claim club key (Some mine) (line.Groups groups) more tokens r
         place = shown.2;
         nearer = shown.3.2;
         count = eqb-true (length numbers) (listed_groups basis.cup claim) front.0;
-        rising = rising numbers rises;
+        rising = rising numbers
+            (and_parts (is_rising numbers) (list_all (is_one_of most_groups) numbers) range).0;
         others = listed_shown basis claim key mine numbers shown.3.1 front.1
             (not-true (list_any first listed) tests.1) shown.3.3;
       },
     )
-groups_shown basis claim club key (Some mine) _ more tokens rises is goes parts =
+groups_shown basis claim club key (Some mine) _ more tokens range is goes parts =
     absurd (bad-go true more goes)
 
 -- the same where a list of groups is due
 pub join_groups : (basis : CupBasis) (claim : Claim) (club : ℕ) (key : List ℤ) (it : CupLine)
-    (more : List CupDue) (tokens : List CupToken) → HasRisingGroups it
+    (more : List CupDue) (tokens : List CupToken) → is_cup_line it ≡ true
     → after_groups_in basis claim club key (group_with (placed_groups basis) club) it
     ≡ go true more → ArePartsOf basis more tokens → IsRefutedWithKey basis claim club key
-join_groups basis claim club key it more tokens rises goes parts =
-    groups_shown basis claim club key (group_with (placed_groups basis) club) it more tokens rises
+join_groups basis claim club key it more tokens range goes parts =
+    groups_shown basis claim club key (group_with (placed_groups basis) club) it more tokens range
     refl goes parts
 
 -- the key with what comes after it

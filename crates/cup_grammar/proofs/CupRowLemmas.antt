@@ -12,25 +12,26 @@ use Rattle.cert_check.specs.ExpectedItems.{is_ask_row, word_in_row}
 use Rattle.cert_check.specs.LineGrammars.{bad, go}
 use Rattle.cert_check.proofs.NextLemmas.{bad-go, go-if}
 use Rattle.cert_check.proofs.RowLemmas.{ask_row-says, word_in_row-says}
+use Rattle.cert_check.proofs.TakenLemmas.{JoinsParts, taken_shows}
 use Rattle.cup_sheet.specs.Cups.{AreSeasonsOf, IsCup, clubs_together}
 use Rattle.cup_laws.specs.inside.CupTruths.{AreCupResults}
 use Rattle.cup_laws.proofs.CupTruthLemmas.{clinched_is_true, lost_is_true}
 use Rattle.cup_text.specs.declared.cup_line.CupLine.{CupLine}
+use Rattle.cup_text.specs.CupItems.{cup_club_name}
+use Rattle.cup_text.specs.CupRanges.{is_cup_line}
 use Rattle.cup_grammar.specs.declared.token.CupToken.{CupToken}
 use Rattle.cup_grammar.specs.declared.token.CupToken.TheVariants.{Blank, Row, Proof, Unknown}
 use Rattle.cup_grammar.specs.PlacedGroups.{CupBasis}
 use Rattle.cup_grammar.specs.CupDues.{CupDue, ask_row, both_parts, club_row, finish_head}
 use Rattle.cup_grammar.specs.CupDues.{groups_line, key_line, lots, nodes, one_part, score}
 use Rattle.cup_grammar.specs.CupDues.{spent_head, tree_head}
-use Rattle.cup_grammar.specs.CupExpected.{after_in_cup, after_cup_proof, name_in_cup}
-use Rattle.cup_grammar.specs.CupExpected.{promised_of_club}
+use Rattle.cup_grammar.specs.CupExpected.{after_in_cup, after_cup_proof, promised_of_club}
 use Rattle.cup_grammar.specs.CupReports.{cup_grammar, cup_tokens_of}
 use Rattle.cup_grammar.specs.CupReports.{part_of_cup_ask}
-use Rattle.cup_grammar.specs.inside.CupParts.{HasRisingGroups, IsReadInCup, ShowsDue, cup_parts}
+use Rattle.cup_grammar.specs.inside.CupParts.{IsReadInCup, ShowsDue, cup_parts}
 use Rattle.cup_grammar.specs.inside.CupRowTruths.{AcceptedCupPartsAreTrue, AreTrueClubRows}
 use Rattle.cup_grammar.specs.inside.CupRowTruths.{IsSaidTrulyInCup, IsTrueClubRow, counts_in_cup}
 use Rattle.cup_grammar.proofs.CupRefutationLemmas.{join_groups, join_key}
-use Rattle.cup_grammar.proofs.CupTakenLemmas.{JoinsParts, taken_shows}
 use Rattle.cup_grammar.proofs.GroupNodeLemmas.{ArePartsOf, join_group_head, join_zones, left_part}
 use Rattle.cup_grammar.proofs.GroupNodeLemmas.{left_parts}
 use Rattle.cup_grammar.proofs.JointFinishLemmas.{join_cup_lots, join_cup_score, join_joint_head}
@@ -75,7 +76,7 @@ module _ (basis : CupBasis) (is_cup : IsCup basis.cup)
     -- the row of a club with what comes after it
     join_club_row : (club : ℕ) (fields : List (List ℕ)) (more : List CupDue)
         (tokens : List CupToken) (found : Option RowWord)
-        → word_in_row basis.cup.quota (name_in_cup basis.cup club) fields ≡ found
+        → word_in_row basis.cup.quota (cup_club_name basis.cup club) fields ≡ found
         → promised_of_club club found ≡ go true more → ArePartsOf basis more tokens
         → IsTrueClubRow basis club (Row fields ∷ tokens)
     join_club_row club fields more tokens None is goes parts = absurd (bad-go true more goes)
@@ -84,7 +85,7 @@ module _ (basis : CupBasis) (is_cup : IsCup basis.cup)
       tokens,
       said_truly club said more tokens goes parts,
       ap (λ it. Row it ∷ tokens)
-          (word_in_row-says basis.cup.quota (name_in_cup basis.cup club) fields said is),
+          (word_in_row-says basis.cup.quota (cup_club_name basis.cup club) fields said is),
     )
 
     -- any row
@@ -94,33 +95,33 @@ module _ (basis : CupBasis) (is_cup : IsCup basis.cup)
     join_cup_row ask_row fields more tokens goes parts = join_ask_row fields more tokens goes parts
     join_cup_row (club_row club) fields more tokens goes parts =
         join_club_row club fields more tokens
-        (word_in_row basis.cup.quota (name_in_cup basis.cup club) fields) refl goes parts
+        (word_in_row basis.cup.quota (cup_club_name basis.cup club) fields) refl goes parts
     join_cup_row _ fields more tokens goes parts = absurd (bad-go true more goes)
 
     -- ---- proof lines
 
     -- any proof line
     join_cup_proof : (due : CupDue) (it : CupLine) (more : List CupDue) (tokens : List CupToken)
-        → HasRisingGroups it → after_cup_proof basis due it ≡ go true more
+        → is_cup_line it ≡ true → after_cup_proof basis due it ≡ go true more
         → ArePartsOf basis more tokens → ShowsDue basis due (Proof it ∷ tokens)
-    join_cup_proof ask_row it more tokens rises goes parts = absurd (bad-go true more goes)
-    join_cup_proof (club_row club) it more tokens rises goes parts = absurd (bad-go true more goes)
-    join_cup_proof (key_line claim club) it more tokens rises goes parts =
+    join_cup_proof ask_row it more tokens range goes parts = absurd (bad-go true more goes)
+    join_cup_proof (club_row club) it more tokens range goes parts = absurd (bad-go true more goes)
+    join_cup_proof (key_line claim club) it more tokens range goes parts =
         join_key basis claim club it more tokens goes parts
-    join_cup_proof (groups_line claim club key) it more tokens rises goes parts =
-        join_groups basis claim club key it more tokens rises goes parts
-    join_cup_proof (tree_head group question) it more tokens rises goes parts =
+    join_cup_proof (groups_line claim club key) it more tokens range goes parts =
+        join_groups basis claim club key it more tokens range goes parts
+    join_cup_proof (tree_head group question) it more tokens range goes parts =
         join_group_head basis group question it more tokens goes parts
-    join_cup_proof spent_head it more tokens rises goes parts = tt
-    join_cup_proof (finish_head claim club) it more tokens rises goes parts =
+    join_cup_proof spent_head it more tokens range goes parts = tt
+    join_cup_proof (finish_head claim club) it more tokens range goes parts =
         join_joint_head basis claim club it more tokens is_cup each goes parts
-    join_cup_proof (one_part claim club) it more tokens rises goes parts = tt
-    join_cup_proof (both_parts club) it more tokens rises goes parts = tt
-    join_cup_proof (nodes kind group question zone zones tally) it more tokens rises goes parts =
+    join_cup_proof (one_part claim club) it more tokens range goes parts = tt
+    join_cup_proof (both_parts club) it more tokens range goes parts = tt
+    join_cup_proof (nodes kind group question zone zones tally) it more tokens range goes parts =
         join_zones basis kind group question zone zones tally it more tokens goes parts
-    join_cup_proof (score claim club ended left) it more tokens rises goes parts =
+    join_cup_proof (score claim club ended left) it more tokens range goes parts =
         join_cup_score basis claim club ended left it more tokens goes parts
-    join_cup_proof (lots claim club ended) it more tokens rises goes parts =
+    join_cup_proof (lots claim club ended) it more tokens range goes parts =
         join_cup_lots basis claim club ended it more tokens goes parts
 
     -- ---- whole parts
@@ -164,7 +165,7 @@ accepted_is_true basis lines from next unsettled is_cup each results ends =
     (cup_lines_join basis is_cup each results)
     (drop from (cup_tokens_of lines)) (part_of_cup_ask basis.cup) from 0 next unsettled
     (lines_are_read lines from) ends in
-    let parts = taken.4 in (
+    let parts = taken.5 in (
       taken.0,
       taken.1,
       taken.2,

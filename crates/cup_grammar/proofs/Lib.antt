@@ -1,8 +1,7 @@
--- Lines that were read, and what is taken where a reading is whole; then the nodes of trees, groups
--- by their places, refuted sides and joint finishes; then rows and whole parts.
+-- Lines that were read; then the nodes of trees, groups by their places, refuted sides and joint
+-- finishes; then rows and whole parts.
 pub mod CupTokenLemmas
 pub mod ReadLineLemmas
-pub mod CupTakenLemmas
 pub mod GroupNodeLemmas
 pub mod PlacedGroupLemmas
 pub mod CupRefutationLemmas

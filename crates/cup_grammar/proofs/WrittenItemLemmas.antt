@@ -15,13 +15,13 @@ use Rattle.cert_check.specs.inside.Calls.{unsettled_in}
 use Rattle.cert_check.proofs.RowLemmas.{word_in_row-of}
 use Rattle.cup_sheet.specs.Cups.{AreSeasonsOf, IsCup}
 use Rattle.cup_laws.specs.inside.CupTruths.{AreCupResults}
-use Rattle.cup_text.specs.CupItems.{IsCupPartText, IsShownText, IsSpentText}
+use Rattle.cup_text.specs.CupItems.{IsCupPartText, IsShownText, IsSpentText, cup_club_name}
 use Rattle.cup_text.specs.declared.cup_line.CupLine.{CupLine}
 use Rattle.cup_grammar.specs.declared.token.CupToken.TheVariants.{Proof, Row}
 use Rattle.cup_grammar.specs.PlacedGroups.{CupBasis}
 use Rattle.cup_grammar.specs.CupDues.{CupDue, both_parts, finish_head, one_part}
 use Rattle.cup_grammar.specs.CupDues.{spent_head, whole_joint_finish}
-use Rattle.cup_grammar.specs.CupExpected.{dues_of_cup_word, name_in_cup, promised_of_club}
+use Rattle.cup_grammar.specs.CupExpected.{dues_of_cup_word, promised_of_club}
 use Rattle.cup_grammar.specs.CupReports.{cup_ending_of, cup_grammar, is_unsettled_club}
 use Rattle.cup_grammar.specs.inside.WrittenCupItems.{IsWrittenOfClub, WrittenCupItemsAreAccepted}
 use Rattle.cup_grammar.proofs.ReadsOnLemmas.{ReadsOn, reads_both, reads_through}
@@ -135,7 +135,7 @@ counted_row quota name word.Unsettled unsettled = refl
 pub item_accepted : WrittenCupItemsAreAccepted
 unfolding cup_grammar
 item_accepted basis club said lines rest dues at unsettled is_cup each results written =
-    let name = name_in_cup basis.cup club in
+    let name = cup_club_name basis.cup club in
     let quota = basis.cup.quota in
     let tokens = map Proof lines ++ rest in
     let count : ℕ = if is_unsettled_club (Row (verdict_fields quota name said)) then unsettled + 1

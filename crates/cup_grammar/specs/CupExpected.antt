@@ -1,15 +1,13 @@
 -- What each line of a report on a cup leaves due in the place of what it is read for: the row of
 -- the ask, the rows of the clubs, and the proof lines under them.
-use Rattle.std.specs.Prelude.{ℕ, true, List, [], ◌∷◌, map, get_or, Option, Some, None}
-use Rattle.std.specs.Prelude.{if◌then◌else◌}
+use Rattle.std.specs.Prelude.{ℕ, true, List, [], ◌∷◌, Option, Some, None, if◌then◌else◌}
 use Rattle.league_core.specs.declared.question.Claim.TheVariants.{Inside, Outside}
 use Rattle.line_tokens.specs.declared.row_word.RowWord.{RowWord}
 use Rattle.line_tokens.specs.declared.row_word.RowWord.TheVariants as word
 use Rattle.cert_check.specs.ExpectedItems.{is_ask_row, word_in_row}
 use Rattle.cert_check.specs.LineGrammars.{Next, bad, go}
-use Rattle.cup_sheet.specs.declared.cup.Cup.{Cup}
-use Rattle.cup_sheet.specs.Cups.{clubs_of_groups}
 use Rattle.cup_text.specs.declared.cup_line.CupLine.{CupLine}
+use Rattle.cup_text.specs.CupItems.{cup_club_name}
 use Rattle.cup_grammar.specs.declared.token.CupToken.{CupToken}
 use Rattle.cup_grammar.specs.declared.token.CupToken.TheVariants.{Blank, Row, Proof, Unknown}
 use Rattle.cup_grammar.specs.PlacedGroups.{CupBasis, placed_groups, group_with, own_node}
@@ -19,10 +17,6 @@ use Rattle.cup_grammar.specs.CupDues.{lots, after_key_line, after_groups_in, aft
 use Rattle.cup_grammar.specs.CupDues.{after_group_node_if, after_spent_line, after_joint_head}
 use Rattle.cup_grammar.specs.CupDues.{after_cup_part, after_cup_parts, after_cup_score}
 use Rattle.cup_grammar.specs.CupDues.{after_cup_lots}
-
--- the name of a club of the cup
-abbrev pub name_in_cup : Cup → ℕ → List ℕ
-name_in_cup cup club = get_or (map (λ it. it.name) (clubs_of_groups cup.groups)) club []
 
 -- what a word asks for
 abbrev pub dues_of_cup_word : ℕ → RowWord → List CupDue
@@ -41,7 +35,7 @@ abbrev pub after_cup_row : CupBasis → CupDue → List (List ℕ) → Next CupD
 after_cup_row basis ask_row fields =
     if is_ask_row basis.epoch fields then go true [] else bad
 after_cup_row basis (club_row club) fields =
-    promised_of_club club (word_in_row basis.cup.quota (name_in_cup basis.cup club) fields)
+    promised_of_club club (word_in_row basis.cup.quota (cup_club_name basis.cup club) fields)
 after_cup_row basis _ fields = bad
 
 -- a proof line when something is due

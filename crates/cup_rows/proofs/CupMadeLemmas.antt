@@ -29,8 +29,9 @@ use Rattle.runners_up.specs.declared.finding.SideRefutation.{SideRefutation}
 use Rattle.runners_up.specs.inside.ClubFindings.{IsClubFinding, IsSideRefutedBy}
 use Rattle.runners_up.specs.inside.JointEnds.{group_finishes}
 use Rattle.cup_rows.specs.declared.found.FoundClub.{FoundClub}
-use Rattle.cup_text.specs.CupTexts.{ShowsInCup, RefutesInCup, IsCupItemText, IsGroupsText}
-use Rattle.cup_text.specs.CupTexts.{cup_club_name, text_of_cup_lines}
+use Rattle.cup_text.specs.CupItems.{cup_club_name}
+use Rattle.cup_answers.specs.CupTexts.{ShowsInCup, RefutesInCup, IsCupItemText, IsGroupsText}
+use Rattle.cup_answers.specs.CupTexts.{text_of_cup_lines}
 use Rattle.cup_rows.specs.inside.FoundClubs.{IsFoundClub, AreFoundClubs, found_clubs}
 use Rattle.cup_rows.specs.inside.VerdictLines.{open_side_lines, refuted_side_lines, word_of_finding}
 use Rattle.cup_rows.proofs.OpenTextLemmas.{possible_text, unsettled_text}

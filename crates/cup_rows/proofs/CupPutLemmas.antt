@@ -13,8 +13,8 @@ use Rattle.answer_rows.specs.inside.Outputs.{Puts, PutsSomeText}
 use Rattle.answer_rows.proofs.OutputLemmas.{front-more, puts-behind}
 use Rattle.cup_sheet.specs.declared.cup.Cup.{Cup}
 use Rattle.cup_text.specs.declared.cup_line.CupLine.{CupLine}
-use Rattle.cup_text.specs.CupTexts.{ShowsInCup, IsCupItemText, cup_club_name, cup_line_row}
-use Rattle.cup_text.specs.CupTexts.{text_of_cup_lines}
+use Rattle.cup_text.specs.CupItems.{cup_club_name}
+use Rattle.cup_answers.specs.CupTexts.{ShowsInCup, IsCupItemText, cup_line_row, text_of_cup_lines}
 
 -- the next of the lines that are left
 pub cup_lines-next : (lines : List CupLine) (i : ℕ) (line : CupLine) → i < length lines

@@ -29,7 +29,7 @@ use Rattle.runners_up.specs.declared.survey.OpenGroup.{OpenGroup}
 use Rattle.runners_up.specs.inside.ClubFindings.{IsClubFinding, IsOpenSide, IsSideSpentBy}
 use Rattle.runners_up.specs.inside.ClubFindings.{is_spent_side}
 use Rattle.runners_up.specs.inside.JointEnds.{group_finishes}
-use Rattle.cup_text.specs.CupTexts.{ShowsInCup}
+use Rattle.cup_answers.specs.CupTexts.{ShowsInCup}
 use Rattle.cup_rows.specs.inside.GroupTreeLines.{spent_node_line}
 use Rattle.cup_rows.specs.inside.VerdictLines.{open_group_lines, open_side_lines, verdict_lines}
 use Rattle.cup_rows.specs.inside.VerdictLines.{word_of_finding}

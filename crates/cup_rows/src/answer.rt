@@ -4,7 +4,7 @@ ghost use Rattle.answer_rows.specs.Parts.{IsMadeOf};
 ghost use Rattle.answer_rows.specs.inside.Outputs.{CountsPut, PutsSomeText};
 ghost use Rattle.cup_sheet.specs.Cups.{IsCup, AreSeasonsOf};
 ghost use Rattle.std.specs.Prelude.{All};
-ghost use Rattle.cup_text.specs.CupTexts.{IsCupItemText, IsGroupsText};
+ghost use Rattle.cup_answers.specs.CupTexts.{IsCupItemText, IsGroupsText};
 ghost use Rattle.cup_rows.specs.inside.FoundClubs.{AreFoundClubs, IsFoundClub, found_clubs};
 
 use crate::found::FoundClub;

@@ -3,7 +3,7 @@
 ghost use Rattle.std.specs.Prelude.{◌≡◌, true, false, All, IfOk, IsTrue};
 ghost use Rattle.cup_sheet.specs.Cups.{IsCup, AreSeasonsOf};
 ghost use Rattle.cup_text.specs.CupRanges.{is_cup_line};
-ghost use Rattle.cup_text.specs.CupTexts.{ShowsInCup};
+ghost use Rattle.cup_answers.specs.CupTexts.{ShowsInCup};
 ghost use Rattle.cup_rows.specs.inside.FoundClubs.{IsFoundClub};
 ghost use Rattle.cup_rows.specs.inside.VerdictLines.{word_of_finding};
 

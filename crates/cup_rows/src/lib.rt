@@ -2,7 +2,7 @@
 //! the sink.
 //!
 //! Clubs, fixtures and groups have the numbers of the cup; the trees of a search have those of
-//! their group. Read `specs/CupTexts.antt` first.
+//! their group. Read cup_answers' `specs/CupTexts.antt` first.
 #![tactic(auto)]
 
 mod answer;

@@ -5,8 +5,8 @@ ghost use Rattle.answer_rows.specs.Rows.{verdict_row};
 ghost use Rattle.answer_rows.specs.inside.Outputs.{CountsPut, Puts, PutsSomeText};
 ghost use Rattle.cup_sheet.specs.Cups.{IsCup, AreSeasonsOf, clubs_together};
 ghost use Rattle.cup_text.specs.CupRanges.{is_cup_line};
-ghost use Rattle.cup_text.specs.CupTexts.{cup_club_name, cup_line_row, text_of_cup_lines};
-ghost use Rattle.cup_text.specs.CupTexts.{IsCupItemText};
+ghost use Rattle.cup_text.specs.CupItems.{cup_club_name};
+ghost use Rattle.cup_answers.specs.CupTexts.{IsCupItemText, cup_line_row, text_of_cup_lines};
 ghost use Rattle.cup_rows.specs.inside.FoundClubs.{IsFoundClub};
 ghost use Rattle.cup_rows.specs.inside.VerdictLines.{word_of_finding};
 

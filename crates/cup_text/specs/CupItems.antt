@@ -1,9 +1,9 @@
--- What an answer writes of a club of a cup after the row of its verdict, as lines: what refutes a
--- side of it, or a joint finish, or a tree on which the budget was spent. Clubs, fixtures and
--- groups have the numbers of the cup.
+-- What an answer writes of a club of a cup: its name, in the row of its verdict, and after that row
+-- lines: what refutes a side of it, or a joint finish, or a tree on which the budget was spent.
+-- Clubs, fixtures and groups have the numbers of the cup.
 use Rattle.std.specs.Prelude.{◌≡◌, ◌<◌, ℕ, ◌+◌, ℤ, Bool, true, false, not, ◌||◌, ◌==◌, IsTrue}
-use Rattle.std.specs.Prelude.{List, [], ◌∷◌, ◌++◌, length, slice_get, Option, Some, None}
-use Rattle.std.specs.Prelude.{if◌then◌else◌}
+use Rattle.std.specs.Prelude.{List, [], ◌∷◌, ◌++◌, length, map, get_or, slice_get, Option, Some}
+use Rattle.std.specs.Prelude.{None, if◌then◌else◌}
 use Rattle.league_core.specs.declared.season.Score.{Score}
 use Rattle.league_core.specs.declared.question.Claim.{Claim}
 use Rattle.league_core.specs.declared.question.Claim.TheVariants.{Inside, Outside}
@@ -12,6 +12,7 @@ use Rattle.league_core.specs.game.Sheets.{clubs_of}
 use Rattle.league_core.specs.search.Splits.{is_proper}
 use Rattle.cup_sheet.specs.declared.cup.Cup.{Cup}
 use Rattle.cup_sheet.specs.declared.question.GroupKind.{GroupKind}
+use Rattle.cup_sheet.specs.Cups.{clubs_of_groups}
 use Rattle.cup_sheet.specs.CupLimits.{direct_places}
 use Rattle.cup_sheet.specs.JointFinishes.{GroupState, number_in_cup, states_of}
 use Rattle.cup_sheet.specs.GroupQuestions.{GroupQuestion, is_of_place, place_question}
@@ -24,6 +25,10 @@ use Rattle.cup_text.specs.declared.cup_line.CupKey.{CupKey}
 use Rattle.cup_text.specs.declared.cup_line.CupLine.{CupLine}
 use Rattle.cup_text.specs.declared.cup_line.CupLine.TheVariants as line
 use Rattle.cup_text.specs.GroupNodeLines.{lines_of_group_tree}
+
+-- the name of a club, by its number in the cup from 0
+abbrev pub cup_club_name : Cup → ℕ → List ℕ
+cup_club_name cup club = get_or (map (λ it. it.name) (clubs_of_groups cup.groups)) club []
 
 -- lines one after another, some for each of these things, in their order
 abbrev pub AreLinesOf : {A : Type 0} → (A → List CupLine → Type 0) → List A → List CupLine → Type 0

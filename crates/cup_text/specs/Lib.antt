@@ -7,4 +7,3 @@ pub mod CupRanges
 pub mod CupValues
 pub mod GroupNodeLines
 pub mod CupItems
-pub mod CupTexts

@@ -3,7 +3,7 @@ use Rattle.std.specs.Prelude.{◌≡◌, ℕ, true, List, map, All}
 use Rattle.std.specs.List.{range_with_len}
 use Rattle.league_core.specs.game.Results.{Results}
 use Rattle.cup_sheet.specs.declared.cup.Cup.{Cup}
-use Rattle.cup_text.specs.CupTexts.{ShowsInCup}
+use Rattle.cup_answers.specs.CupTexts.{ShowsInCup}
 use Rattle.cup_verdicts.specs.declared.verdicts.CupVerdict.{CupVerdict}
 
 -- the word of a verdict is true of its club, and its lines show what they have to show

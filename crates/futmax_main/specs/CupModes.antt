@@ -2,7 +2,7 @@
 -- of an input.
 use Rattle.std.specs.Prelude.{ℕ, Bool, List}
 use Rattle.cup_turns.specs.CupCourses.{CupPlayed, cup_kind}
-use Rattle.cup_text.specs.CupTexts.{IsGroupsText}
+use Rattle.cup_answers.specs.CupTexts.{IsGroupsText}
 use Rattle.cup_check.specs.declared.outcome.CupOutcome.{CupOutcome}
 use Rattle.cup_check.specs.declared.outcome.CupOutcome.TheVariants.{BadCup, Judged}
 use Rattle.cup_check.specs.CupOutcomes.{cup_outcome_of}

@@ -18,7 +18,7 @@ use Rattle.cert_check.specs.LineGrammars.{short}
 use Rattle.cert_check.specs.ExpectedItems.{Basis, Expected, ask_row, verdict_row}
 use Rattle.cert_check.specs.Machine.{rows_of, report_grammar}
 use Rattle.cert_check.specs.inside.Calls.{ReportView, ending_from, Goes}
-use Rattle.cert_check.proofs.ReachLemmas.{ends_whole}
+use Rattle.cert_check.proofs.GoesLemmas.{ends_whole}
 use Rattle.par_check.specs.declared.asks.Item.{Item}
 use Rattle.par_check.specs.declared.item_due.ItemRow.{ItemRow}
 use Rattle.cert_check.specs.inside.Pieces.{grammar_of_piece, unproved_in, end_by}
@@ -322,13 +322,13 @@ ask_through judged ask from behind old new result room goes cut =
         (rows_wanted judged.basis ask 0 (rows_of judged.basis.sheet) ++ later) from before behind
         before
         (ask_grammar judged from before (whole_at behind before)
-        (goes.1 [] before ∙ ends_whole judged behind before))
+        (goes.1 [] before ∙ ends_whole report_grammar judged behind before))
         (ask_adds judged ask from behind judge old) far
 
     behind_row : from ≤ behind
     behind_row =
         let taken = takes_lines report_grammar judged.basis (drop from judged.tokens)
-        (ask_row ∷ []) from 0 behind 0 (goes.1 [] 0 ∙ ends_whole judged behind 0) in
+        (ask_row ∷ []) from 0 behind 0 (goes.1 [] 0 ∙ ends_whole report_grammar judged behind 0) in
         omega (arith, taken.0)
 
     by_result : (result : Result PartRead CheckStopAt)

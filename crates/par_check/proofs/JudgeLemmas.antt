@@ -5,9 +5,9 @@ use Rattle.cert_check.specs.declared.item.PartRead.{PartRead}
 use Rattle.cert_check.specs.declared.stop.CheckStopAt.{CheckStopAt}
 use Rattle.cert_check.specs.declared.stop.CheckStopAt.TheVariants as halt
 use Rattle.cert_check.specs.ExpectedItems.{Expected, ask_row, verdict_row}
-use Rattle.cert_check.specs.Machine.{rows_of}
+use Rattle.cert_check.specs.Machine.{report_grammar, rows_of}
 use Rattle.cert_check.specs.inside.Calls.{ReportView, ending_from, GoesOverItem}
-use Rattle.cert_check.proofs.ReachLemmas.{ends_whole}
+use Rattle.cert_check.proofs.GoesLemmas.{ends_whole}
 use Rattle.par_check.specs.declared.asks.Item.{Item}
 use Rattle.par_check.specs.declared.item_due.ItemRow.{ItemRow}
 use Rattle.cert_check.specs.inside.Pieces.{unproved_in}
@@ -31,8 +31,8 @@ pub item_told : (judged : ReportView) (item : Item) (row : ItemRow)
     → GoesOverItem judged item.from row.line row.club result → ToldOf judged item result
 item_told judged item row (Ok found) due goes =
     let named = λ (it : Expected). unproved_in (ending_from judged item.from (it ∷ []) 0) in
-    ap unproved_in (sym (goes.1 [] 0 ∙ ends_whole judged found.next (0 + found.unsettled)))
-    ∙ sym (ap named due)
+    let ends = ends_whole report_grammar judged found.next (0 + found.unsettled) in
+    ap unproved_in (sym (goes.1 [] 0 ∙ ends)) ∙ sym (ap named due)
 item_told judged item row (Err (halt.BadLine at)) due goes =
     let named = λ (it : Expected). unproved_in (ending_from judged item.from (it ∷ []) 0) in
     ap unproved_in (sym (goes.1 [] 0)) ∙ sym (ap named due)

@@ -20,9 +20,10 @@ use Rattle.cert_check.specs.LineGrammars.{Ending, whole_at, bad_line, no_proof, 
 use Rattle.cert_check.specs.Machine.{part_of_ask, report_grammar}
 use Rattle.cert_check.specs.Machine.{basis_of, rows_of}
 use Rattle.league_core.specs.game.Seasons.{season_after}
+use Rattle.cert_check.specs.inside.Goes.{IsStopWithin, stop_by_number}
 use Rattle.cert_check.specs.inside.Calls.{ReportView, ending_from, Goes, GoesOverAll, AllHalt}
 use Rattle.cert_check.specs.inside.Calls.{GoesOverItem, Reaches}
-use Rattle.cert_check.proofs.ReachLemmas.{ends_whole, reach_on, reach_halt, all_shown_ends}
+use Rattle.cert_check.proofs.GoesLemmas.{ends_whole, reach_on, reach_halt, all_shown_ends}
 use Rattle.par_check.specs.declared.asks.Asks.{Asks}
 use Rattle.par_check.specs.declared.item_due.ItemRow.{ItemRow}
 use Rattle.par_check.specs.declared.places.Place.{Place}
@@ -31,7 +32,7 @@ use Rattle.par_check.specs.declared.places.Whole.{Whole}
 use Rattle.cert_check.specs.inside.Pieces.{go_on_by, ending_of_asks}
 use Rattle.par_check.specs.FirstStops.{judged_by, reports}
 use Rattle.par_check.specs.Cuts.{bases_in}
-use Rattle.par_check.specs.Checked.{StopsSo, StopsWithin, ending_in}
+use Rattle.par_check.specs.Checked.{AnswersSo, StopsSo, ending_in}
 use Rattle.par_check.specs.Places.{rest_of, rest_at, IsPlace, ReadsOn, place_before}
 use Rattle.par_check.specs.Places.{GoesOverRows, ReadsToEnd, IsBehindAsk, ReadsWhole}
 use Rattle.par_check.proofs.AskLemmas.{ask_first, report_of_ask}
@@ -50,10 +51,7 @@ ask_row_alone judged from next goes = (
 
 pub ask_row_stops : (judged : ReportView) (from : ℕ) (stop : CheckStopAt)
     → Goes judged from ask_row (Err stop) → GoesOverAll judged from (ask_row ∷ []) (Err stop)
-ask_row_stops judged from (halt.BadLine at) goes = goes
-ask_row_stops judged from (halt.NoProof at) goes = goes
-ask_row_stops judged from halt.Short goes = goes
-ask_row_stops judged from halt.OutOfMemory goes = tt
+ask_row_stops judged from stop halts = halts
 
 -- the same at row 0
 pub row_zero : (judged : ReportView) (from row : ℕ) (result : Result PartRead CheckStopAt)
@@ -82,7 +80,7 @@ pub goes_far : (judged : ReportView) (wanted : List Expected) (at : ℕ) (found 
 goes_far judged wanted at found goes =
     let taken = takes_lines report_grammar judged.basis (drop at judged.tokens) wanted at 0
     found.next
-    found.unsettled (all_shown_ends judged at wanted found goes) in
+    found.unsettled (all_shown_ends report_grammar judged at wanted found goes) in
     omega (arith, taken.1)
 
 -- the rows that are left, the next one first
@@ -102,7 +100,7 @@ pub row_on : (judged : ReportView) (row at from next count : ℕ) (found : PartR
 row_on judged row at from next count found within reaches goes =
     let part = part_of_ask judged.basis.sheet in
     let P : List Expected → Type 0 = λ it. Reaches judged from (drop row part) next it count in
-    reach_on judged from next count (drop row part) (get_or part at ask_row ∷ [])
+    reach_on report_grammar judged from next count (drop row part) (get_or part at ask_row ∷ [])
     (drop (at + 1) part) found (subst P (rows_first judged.basis.sheet at within) reaches) goes
 
 -- the reading stops at a row
@@ -115,7 +113,7 @@ pub row_stops : (judged : ReportView) (row at from next count : ℕ) (stop : Che
 row_stops judged row at from next count stop within reaches halts =
     let part = part_of_ask judged.basis.sheet in
     let P : List Expected → Type 0 = λ it. Reaches judged from (drop row part) next it count in
-    reach_halt judged from next count (drop row part) (get_or part at ask_row ∷ [])
+    reach_halt report_grammar judged from next count (drop row part) (get_or part at ask_row ∷ [])
     (drop (at + 1) part) stop (subst P (rows_first judged.basis.sheet at within) reaches) halts
 
 -- no row yet
@@ -158,7 +156,7 @@ rest_over tokens basis later row at unsettled all =
     let rest : ℕ → ℕ → Ending = λ to found. ending_of_asks reports tokens later to found in
     ap (λ due. go_on_by (ending_from judged at due unsettled) rest)
     (drop_of_length-le (part_of_ask basis.sheet) all)
-    ∙ ap (λ it. go_on_by it rest) (ends_whole judged at unsettled)
+    ∙ ap (λ it. go_on_by it rest) (ends_whole report_grammar judged at unsettled)
     ∙ sym (rest_begins tokens at unsettled later)
 
 -- a row of an ask that is there
@@ -426,11 +424,20 @@ comes_to_stop sheet asks lines stop reads =
 
 -- a stop names a line
 pub stop_within : (lines : ℕ) (ending : Ending) (stop : CheckStopAt)
-    → StopsSo lines ending stop → StopsWithin lines stop
+    → StopsSo lines ending stop → IsStopWithin lines stop
 stop_within lines ending (halt.BadLine at) stops = stops.0
 stop_within lines ending (halt.NoProof at) stops = stops.0
 stop_within lines ending halt.Short stops = tt
 stop_within lines ending halt.OutOfMemory stops = tt
+
+-- what it comes to by the number of that line
+pub stop_answers : (lines : List NumberedLine) (rows : ℕ) (ending : Ending) (stop : CheckStopAt)
+    → StopsSo (length lines) ending stop
+    → AnswersSo lines rows ending (Err (stop_by_number lines stop))
+stop_answers lines rows ending (halt.BadLine at) stops = (at, stops.0, stops.1, refl)
+stop_answers lines rows ending (halt.NoProof at) stops = (at, stops.0, stops.1, refl)
+stop_answers lines rows ending halt.Short stops = stops
+stop_answers lines rows ending halt.OutOfMemory stops = tt
 
 -- what holds of each that came of an item holds of all that came
 pub all_of_zip : {A B : Type 0} (P : B → Type 0) (items : List A) (made : List B)

@@ -64,10 +64,3 @@ StopsSo lines ending (halt.BadLine at) = (at < lines) × (ending ≡ bad_line at
 StopsSo lines ending (halt.NoProof at) = (at < lines) × (ending ≡ no_proof at)
 StopsSo lines ending halt.Short = ending ≡ short
 StopsSo lines ending halt.OutOfMemory = Unit {0}
-
--- a stop names a line within these
-abbrev pub StopsWithin : ℕ → CheckStopAt → Type 0
-StopsWithin lines (halt.BadLine at) = at < lines
-StopsWithin lines (halt.NoProof at) = at < lines
-StopsWithin lines halt.Short = Unit {0}
-StopsWithin lines halt.OutOfMemory = Unit {0}

@@ -4,14 +4,12 @@ ghost use Rattle.std.specs.Prelude.{◌≡◌, ◌≤◌, All, IfOk, drop, lengt
 ghost use Rattle.league_core.specs.game.Sheets.{IsWithinLimits};
 ghost use Rattle.port_core.specs.Contents.{input_limit};
 ghost use Rattle.cert_check.specs.Outcomes.{first_progress, outcome_at_end, outcome_from};
-ghost use Rattle.cert_check.specs.inside.InputCalls.{IsEntryOf, IsRefusedBy, report_read};
+ghost use Rattle.cert_check.specs.inside.InputCalls.{IsEntryOf, report_read};
 ghost use Rattle.par_check.specs.FeedAsks.{standing_at_end};
 
 use crate::feed_asks::asks_of;
 use crate::report_check::check_all;
-use cert_check::{
-    Accepted, CheckOutcome, CheckStop, ReportFault, ReportKind, ReportLines, check_end,
-};
+use cert_check::{Accepted, CheckOutcome, ReportKind, ReportLines, check_end, refused_by};
 use league_core::{OutOfMemory, Sheet};
 use result_log::Entry;
 use std::alloc::Global;
@@ -56,26 +54,5 @@ fn ended(alloc: Global, told: &ReportLines, accepted: Accepted) -> Result<CheckO
             unsettled: u64::from(accepted.unsettled),
         }),
         Err(stop) => refused_by(stop, told.end),
-    }
-}
-
-// A stop of the checker as an outcome; a report that is short is refused at the input's end.
-fn refused_by(stop: CheckStop, end: u64) -> Result<CheckOutcome, OutOfMemory>
-    ensures { IsRefusedBy end stop result }
-{
-    match stop {
-        CheckStop::BadLine { number } => Ok(CheckOutcome::Refused {
-            number,
-            fault: ReportFault::BadLine,
-        }),
-        CheckStop::NoProof { number } => Ok(CheckOutcome::Refused {
-            number,
-            fault: ReportFault::NoProof,
-        }),
-        CheckStop::Short => Ok(CheckOutcome::Refused {
-            number: end,
-            fault: ReportFault::Short,
-        }),
-        CheckStop::OutOfMemory => Err(OutOfMemory),
     }
 }

@@ -6,17 +6,17 @@ ghost use Rattle.port_core.specs.Contents.{input_limit};
 ghost use Rattle.port_core.specs.Readers.{TakesInput, contents_to_come};
 ghost use Rattle.cert_check.specs.inside.InputCalls.{ChecksBy, ChecksInput, CountsCheck, IsEntryOf};
 ghost use Rattle.cert_check.specs.inside.InputCalls.{LeavesCheck, IfRead, outcome_after_feed};
-ghost use Rattle.cert_check.specs.inside.InputCalls.{outcome_after_sheet, IsShort, IsStoppedBy};
+ghost use Rattle.cert_check.specs.inside.InputCalls.{outcome_after_sheet};
 
 use crate::feed_report::report_outcome;
 use cert_check::{
-    CheckFailure, CheckOutcome, FeedSoFar, LinesStop, ReportFault, ReportKind, read_feed,
-    read_lines,
+    CheckFailure, CheckOutcome, FeedSoFar, LinesStop, ReportKind, read_feed, read_lines, short,
+    stopped,
 };
 use fixture_sheet::{SheetStop, read_sheet};
 use kept_lines::LineList;
 use league_core::Sheet;
-use port_core::{LineReader, ReadStop, Source};
+use port_core::{LineReader, Source};
 use result_log::{Entry, FeedStop};
 use std::alloc::Global;
 use std::thread::Threads;
@@ -132,28 +132,5 @@ fn check_report<R: Threads + Sync, S: Source>(
         },
         Err(LinesStop::Read(stop)) => stopped(stop),
         Err(LinesStop::OutOfMemory) => Err(CheckFailure::OutOfMemory),
-    }
-}
-
-// The input ended before the record `proofs`. A line has a byte at least, so the number after the
-// last one is never too great.
-fn short(reader: &LineReader) -> Result<CheckOutcome, CheckFailure>
-    ensures { IsShort reader.now result }
-{
-    let Some(number) = reader.number().checked_add(1) else {
-        return Err(CheckFailure::OutOfMemory);
-    };
-    let fault = ReportFault::Short;
-    Ok(CheckOutcome::Refused { number, fault })
-}
-
-// The reading stopped.
-fn stopped(stop: ReadStop) -> Result<CheckOutcome, CheckFailure>
-    ensures { IsStoppedBy stop result }
-{
-    match stop {
-        ReadStop::ReadFault => Err(CheckFailure::ReadFault),
-        ReadStop::LineTooLong { number } => Ok(CheckOutcome::LineTooLong { number }),
-        ReadStop::InputTooLong { number } => Ok(CheckOutcome::InputTooLong { number }),
     }
 }

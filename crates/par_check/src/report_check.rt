@@ -4,7 +4,7 @@ ghost use Rattle.std.specs.Prelude.{◌≡◌, ◌<◌, ◌≤◌, ◌^◌, ℕ,
 ghost use Rattle.league_core.specs.game.Sheets.{IsWithinLimits};
 ghost use Rattle.cert_check.specs.LineGrammars.{Ending, whole_at};
 ghost use Rattle.par_check.specs.Cuts.{AreAsks};
-ghost use Rattle.par_check.specs.Checked.{AnswersSo, StopsSo, StopsWithin, ending_in};
+ghost use Rattle.par_check.specs.Checked.{AnswersSo, ending_in};
 ghost use Rattle.par_check.specs.Checked.{first_stop_in, rows_in};
 ghost use Rattle.par_check.specs.Places.{ReadsToEnd, IsWholeReport, ReadsWhole};
 
@@ -14,7 +14,7 @@ use crate::places::{Place, RunRead, Whole, read_both};
 use crate::reading::read_run;
 use crate::runs::last_run;
 use crate::side_by_side::read_together;
-use cert_check::{Accepted, CheckStop, CheckStopAt, PartRead};
+use cert_check::{Accepted, CheckStop, CheckStopAt, PartRead, by_number};
 use kept_lines::LineList;
 use league_core::Sheet;
 use rayon::current_num_threads;
@@ -49,7 +49,7 @@ pub fn check_all<R: Threads + Sync>(
     };
     match read_whole(rt, &whole) {
         Ok(found) => accepted(sheet, asks, lines, found),
-        Err(stop) => Err(told(lines, stop)),
+        Err(stop) => Err(by_number(stop, lines)),
     }
 }
 
@@ -121,23 +121,5 @@ fn accepted(
             unsettled: found.unsettled,
         }),
         Err(_) => Err(CheckStop::OutOfMemory),
-    }
-}
-
-// A stop by the number of its line.
-fn told(lines: &LineList, stop: CheckStopAt) -> CheckStop
-    requires { StopsWithin (length lines.now) stop }
-    ensures { (rows : ℕ) (ending : Ending) → StopsSo (length lines.now) ending stop
-        → AnswersSo lines.now rows ending (Err result) }
-{
-    match stop {
-        CheckStopAt::BadLine(at) => CheckStop::BadLine {
-            number: lines.number(at),
-        },
-        CheckStopAt::NoProof(at) => CheckStop::NoProof {
-            number: lines.number(at),
-        },
-        CheckStopAt::Short => CheckStop::Short,
-        CheckStopAt::OutOfMemory => CheckStop::OutOfMemory,
     }
 }

@@ -24,8 +24,9 @@ use Rattle.cup_sheet.specs.declared.cup.Cup.{Cup}
 use Rattle.cup_sheet.specs.Cups.{AreSeasonsOf, IsCup, IsGroup, clubs_of_groups, clubs_together}
 use Rattle.cup_laws.specs.inside.CupTruths.{AreCupResults}
 use Rattle.cup_text.specs.declared.cup_line.CupLine.{CupLine}
-use Rattle.cup_text.specs.CupTexts.{IsCupItemText, IsGroupsText, ShowsInCup, cup_club_name}
-use Rattle.cup_text.specs.CupTexts.{cup_line_row, text_of_cup_lines}
+use Rattle.cup_text.specs.CupItems.{cup_club_name}
+use Rattle.cup_answers.specs.CupTexts.{IsCupItemText, IsGroupsText, ShowsInCup}
+use Rattle.cup_answers.specs.CupTexts.{cup_line_row, text_of_cup_lines}
 use Rattle.cup_grammar.specs.declared.token.CupToken.{CupToken}
 use Rattle.cup_grammar.specs.declared.token.CupToken.TheVariants.{Proof, Row}
 use Rattle.cup_grammar.specs.PlacedGroups.{CupBasis}

@@ -25,7 +25,7 @@ use Rattle.cup_text.specs.CupForms.{cup_line_in}
 use Rattle.cup_text.specs.declared.cup_line.CupKey.{CupKey}
 use Rattle.cup_text.specs.CupLines.{cup_key_of, cup_parts_of, text_of_cup_line, text_with_key}
 use Rattle.cup_text.specs.CupRanges.{is_cup_line}
-use Rattle.cup_text.specs.CupTexts.{cup_line_row}
+use Rattle.cup_answers.specs.CupTexts.{cup_line_row}
 use Rattle.cup_text.proofs.CupPrintedLemmas.{cup_printed}
 use Rattle.cup_grammar.specs.declared.token.CupToken.{CupToken}
 use Rattle.cup_grammar.specs.declared.token.CupToken.TheVariants.{Blank, Row, Proof, Unknown}

@@ -66,7 +66,7 @@ use Rattle.cup_text.specs.CupItems.{group_scores_from, joint_lines, joint_scores
 use Rattle.cup_text.specs.CupItems.{key_of_question}
 use Rattle.cup_text.specs.CupRanges.{is_cup_club, is_cup_key, is_cup_leaf, is_cup_line}
 use Rattle.cup_text.specs.CupRanges.{is_key_of_kind, is_key_part}
-use Rattle.cup_text.specs.CupTexts.{ShowsInCup}
+use Rattle.cup_answers.specs.CupTexts.{ShowsInCup}
 use Rattle.cup_text.specs.GroupNodeLines.{group_leaf_line, group_split_line, leaf_in_cup}
 use Rattle.cup_text.specs.GroupNodeLines.{lines_of_group_tree, test_in_cup}
 use Rattle.cup_text.proofs.ProperSplitLemmas.{proper_with}

@@ -53,7 +53,7 @@ use Rattle.cup_text.specs.CupLines.{cup_key_of, cup_leaf_parts, cup_parts_of, cu
 use Rattle.cup_text.specs.CupLines.{key_text, kind_word, text_of_cup_line, text_with_key}
 use Rattle.cup_text.specs.CupRanges.{is_cup_club, is_cup_key, is_cup_leaf, is_cup_line}
 use Rattle.cup_text.specs.CupRanges.{is_cup_reason, is_key_of_kind, is_key_part, is_rising_below}
-use Rattle.cup_text.specs.CupTexts.{ShowsInCup}
+use Rattle.cup_answers.specs.CupTexts.{ShowsInCup}
 use Rattle.cup_text.specs.GroupNodeLines.{group_leaf_line, group_split_line, leaf_in_cup}
 use Rattle.cup_text.specs.GroupNodeLines.{lines_of_group_tree, test_in_cup}
 use Rattle.report_laws.proofs.ShownFormLemmas.{shown_have_forms}

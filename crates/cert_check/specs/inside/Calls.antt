@@ -1,7 +1,6 @@
--- What the calls of the checker come to, each by the reading line by line: a call that reads what
--- is due leaves the rest to be read from where it stops, whatever else is due; or the reading
--- stops.
-use Rattle.std.specs.Prelude.{◌≡◌, ◌<◌, ◌≤◌, ℕ, ◌+◌, ◌^◌, Bool, true, false, IsTrue, List, [], ◌∷◌}
+-- What the calls of the checker come to, each by the reading line by line: the words of Goes at the
+-- grammar of a league's reports.
+use Rattle.std.specs.Prelude.{◌≡◌, ◌<◌, ◌≤◌, ℕ, ◌+◌, Bool, true, IsTrue, List, [], ◌∷◌}
 use Rattle.std.specs.Prelude.{◌++◌, ◌*◌, length, take, drop, Result, Ok, Err, Option, Some}
 use Rattle.std.specs.Prelude.{None, if◌then◌else◌}
 use Rattle.league_core.specs.declared.question.Question.{Question}
@@ -15,7 +14,6 @@ use Rattle.cert_check.specs.declared.stop.Accepted.{Accepted}
 use Rattle.cert_check.specs.declared.stop.CheckStop.{CheckStop}
 use Rattle.cert_check.specs.declared.stop.CheckStop.TheVariants as stop
 use Rattle.cert_check.specs.declared.stop.CheckStopAt.{CheckStopAt}
-use Rattle.cert_check.specs.declared.stop.CheckStopAt.TheVariants as halt
 use Rattle.line_tokens.specs.declared.row_word.RowWord.{RowWord}
 use Rattle.line_tokens.specs.declared.row_word.RowWord.TheVariants.{Clinched, Lost, Possible}
 use Rattle.line_tokens.specs.declared.row_word.RowWord.TheVariants.{Unsettled}
@@ -26,8 +24,7 @@ use Rattle.line_tokens.specs.declared.token.Token.TheVariants.{Blank, Row, Proof
 use Rattle.cert_check.specs.declared.item.PartRead.{PartRead}
 use Rattle.cert_check.specs.declared.tree.TreeSpec.{TreeSpec}
 use Rattle.cert_check.specs.declared.tree.Walk.{Walk}
-use Rattle.cert_check.specs.LineGrammars.{Next, bad, go, Ending, whole_at, bad_line, no_proof}
-use Rattle.cert_check.specs.LineGrammars.{short, by_next}
+use Rattle.cert_check.specs.LineGrammars.{Next, bad, go, Ending}
 use Rattle.cert_check.specs.ExpectedItems.{Basis, Expected, verdict_row, nodes, dues_of_word}
 use Rattle.cert_check.specs.ExpectedItems.{after, after_node, head_in, scores_due, finish_with}
 use Rattle.cert_check.specs.declared.expected.Head.{Head}
@@ -39,15 +36,17 @@ use Rattle.cert_text.specs.declared.proof_line.ProofLine.TheVariants as line
 use Rattle.check_bounds.specs.inside.Trails.{TrailView, root_of}
 use Rattle.line_tokens.specs.LineRanges.{is_path_for}
 use Rattle.cert_check.specs.ExpectedItems.{lots_if_drawn}
-use Rattle.cert_check.specs.Machine.{ending_of, with_unsettled}
+use Rattle.cert_check.specs.Machine.{report_grammar, with_unsettled}
 use Rattle.cert_check.specs.Machine.{part_of_ask}
 use Rattle.cert_check.specs.inside.Truths.{AreTrueRows}
 use Rattle.cert_check.specs.Machine.{part_ending}
+use Rattle.cert_check.specs.inside.Goes.{LinesView, rest_ending, HaltsBy, GoesBy, IsNextLine}
+use Rattle.cert_check.specs.inside.Goes.{FindsNextLine, GoesByFound, AllHaltBy, GoesAfterBy}
+use Rattle.cert_check.specs.inside.Goes.{ChecksWhole, GoesOverBy, ReachesBy}
 
 -- what is judged: by what, and which lines
-pub record ReportView : Type 0 where
-  pub basis : Basis
-  pub tokens : List Token
+abbrev pub ReportView : Type 0
+ReportView = LinesView Basis Token
 
 -- a sheet and a season of it, and the way to the whole of it, from which each tree begins
 pub record IsJudgedFrom (sheet : Sheet) (season : Results) (root : TrailView) : Type 0 where
@@ -56,53 +55,25 @@ pub record IsJudgedFrom (sheet : Sheet) (season : Results) (root : TrailView) : 
 
 -- what the lines from a position on come to, if this is due first
 abbrev pub ending_from : ReportView → ℕ → List Expected → ℕ → Ending
-ending_from judged from dues unsettled =
-    ending_of judged.basis (drop from judged.tokens) dues from unsettled
+ending_from judged from dues unsettled = rest_ending report_grammar judged from dues unsettled
 
 -- the reading stops so, whatever else is due
 abbrev pub HaltsAt : ReportView → ℕ → Expected → CheckStopAt → Type 0
-HaltsAt judged from due (halt.BadLine at) =
-    (at < length judged.tokens)
-    × ((dues : List Expected) (unsettled : ℕ)
-    → ending_from judged from (due ∷ dues) unsettled ≡ bad_line at)
-HaltsAt judged from due (halt.NoProof at) =
-    (at < length judged.tokens)
-    × ((dues : List Expected) (unsettled : ℕ)
-    → ending_from judged from (due ∷ dues) unsettled ≡ no_proof at)
-HaltsAt judged from due halt.Short =
-    (dues : List Expected) (unsettled : ℕ)
-    → ending_from judged from (due ∷ dues) unsettled ≡ short
-HaltsAt judged from due halt.OutOfMemory = Unit {0}
+HaltsAt judged from due stop = HaltsBy report_grammar judged from due stop
 
 -- the position from which the rest is read, if what was due is shown; or why the reading stops
 abbrev pub Goes : ReportView → ℕ → Expected → Result ℕ CheckStopAt → Type 0
-Goes judged from due (Ok at) =
-    (at ≤ length judged.tokens)
-    × ((dues : List Expected) (unsettled : ℕ)
-    → ending_from judged from (due ∷ dues) unsettled ≡ ending_from judged at dues unsettled)
-Goes judged from due (Err stop) = HaltsAt judged from due stop
+Goes judged from due result = GoesBy report_grammar judged from due result
 
 -- the next line that counts
-pub record IsNextAt (judged : ReportView) (from at : ℕ) (token : Token) : Type 0 where
-  pub behind : from ≤ at
-  pub within : at < length judged.tokens
-  pub fits : at + 1 < 2 ^ 64
-  pub there : drop at judged.tokens ≡ token ∷ drop (at + 1) judged.tokens
-  pub counted : IsTrue (counts token)
-  pub reads : (due : Expected) (dues : List Expected) (unsettled : ℕ)
-      → ending_from judged from (due ∷ dues) unsettled
-      ≡ by_next (after judged.basis due token) at
-      (λ more. ending_from judged (at + 1) (more ++ dues) (with_unsettled unsettled token))
+abbrev pub IsNextAt : ReportView → ℕ → ℕ → Token → Type 0
+IsNextAt judged from at token =
+    IsNextLine report_grammar (λ it. IsTrue (counts it)) after with_unsettled judged from at token
 
 -- a call that looks for the next line that counts: there is none if lines are missing
 abbrev pub FindsNext : ReportView → ℕ → Result (ℕ × Token) CheckStopAt → Type 0
-FindsNext judged from (Ok found) = IsNextAt judged from found.0 found.1
-FindsNext judged from (Err halt.Short) =
-    (due : Expected) (dues : List Expected) (unsettled : ℕ)
-    → ending_from judged from (due ∷ dues) unsettled ≡ short
-FindsNext judged from (Err halt.OutOfMemory) = Unit {0}
-FindsNext judged from (Err (halt.BadLine at)) = ⊥
-FindsNext judged from (Err (halt.NoProof at)) = ⊥
+FindsNext judged from result =
+    FindsNextLine report_grammar (λ it. IsTrue (counts it)) after with_unsettled judged from result
 
 -- ---- rows
 
@@ -119,13 +90,9 @@ unsettled_in Unsettled = 1
 
 -- the row of a line and a club leaves due what its word asks for
 abbrev pub GoesByWord : ReportView → ℕ → ℕ → ℕ → Result (ℕ × RowWord) CheckStopAt → Type 0
-GoesByWord judged from line club (Ok found) =
-    (found.0 ≤ length judged.tokens)
-    × ((dues : List Expected) (unsettled : ℕ)
-    → ending_from judged from (verdict_row line club ∷ dues) unsettled
-    ≡ ending_from judged found.0 (dues_of_word line club found.1 ++ dues)
-    (unsettled + unsettled_in found.1))
-GoesByWord judged from line club (Err stop) = HaltsAt judged from (verdict_row line club) stop
+GoesByWord judged from line club result =
+    GoesByFound report_grammar judged from (verdict_row line club) (dues_of_word line club)
+    unsettled_in result
 
 -- ---- trees
 
@@ -150,16 +117,6 @@ abbrev pub after_walked : Basis → TreeSpec → Walk → WideNode → Next Expe
 after_walked basis wanted walk node =
     after_node basis wanted.kind wanted.question walk.path.zone (pending_of walk.path.zone)
     walk.tally node
-
--- what a call says of a node: true if it ends its tree, false if nodes are due after it
-abbrev pub NodeSays : Next Expected → ℕ → Expected → Result Bool CheckStopAt → Type 0
-NodeSays next at due (Ok true) = next ≡ go true []
-NodeSays next at due (Ok false) = next ≡ go true (due ∷ [])
-NodeSays next at due (Err (halt.BadLine place)) = (place ≡ at) × (next ≡ bad)
-NodeSays next at due (Err (halt.NoProof place)) =
-    (place ≡ at) × ((more : List Expected) × (next ≡ go false more))
-NodeSays next at due (Err halt.Short) = ⊥
-NodeSays next at due (Err halt.OutOfMemory) = Unit {0}
 
 -- ---- heads
 
@@ -215,35 +172,15 @@ GoesOverFixture judged from fixture old new (Err stop) =
 
 -- the reading stops so when all of this is due, whatever else is
 abbrev pub AllHalt : ReportView → ℕ → List Expected → CheckStopAt → Type 0
-AllHalt judged from wanted (halt.BadLine at) =
-    (at < length judged.tokens)
-    × ((dues : List Expected) (unsettled : ℕ)
-    → ending_from judged from (wanted ++ dues) unsettled ≡ bad_line at)
-AllHalt judged from wanted (halt.NoProof at) =
-    (at < length judged.tokens)
-    × ((dues : List Expected) (unsettled : ℕ)
-    → ending_from judged from (wanted ++ dues) unsettled ≡ no_proof at)
-AllHalt judged from wanted halt.Short =
-    (dues : List Expected) (unsettled : ℕ)
-    → ending_from judged from (wanted ++ dues) unsettled ≡ short
-AllHalt judged from wanted halt.OutOfMemory = Unit {0}
+AllHalt judged from wanted stop = AllHaltBy report_grammar judged from wanted stop
 
 -- the position from which the rest is read, when all of this is shown; or why the reading stops
 abbrev pub GoesAfter : ReportView → ℕ → List Expected → Result ℕ CheckStopAt → Type 0
-GoesAfter judged from wanted (Ok at) =
-    (at ≤ length judged.tokens)
-    × ((dues : List Expected) (unsettled : ℕ)
-    → ending_from judged from (wanted ++ dues) unsettled ≡ ending_from judged at dues unsettled)
-GoesAfter judged from wanted (Err stop) = AllHalt judged from wanted stop
+GoesAfter judged from wanted result = GoesAfterBy report_grammar judged from wanted result
 
 -- items are shown, with so many unsettled rows among them, or the reading stops
 abbrev pub GoesOverAll : ReportView → ℕ → List Expected → Result PartRead CheckStopAt → Type 0
-GoesOverAll judged from wanted (Ok found) =
-    (found.next ≤ length judged.tokens)
-    × ((dues : List Expected) (unsettled : ℕ)
-    → ending_from judged from (wanted ++ dues) unsettled
-    ≡ ending_from judged found.next dues (unsettled + found.unsettled))
-GoesOverAll judged from wanted (Err stop) = AllHalt judged from wanted stop
+GoesOverAll judged from wanted result = GoesOverBy report_grammar judged from wanted result
 
 -- one item is
 abbrev pub GoesOverItem : ReportView → ℕ → ℕ → ℕ → Result PartRead CheckStopAt → Type 0
@@ -258,9 +195,7 @@ pub record IsOver (fixture : ℕ) (old new : Results) : Type 0 where
 -- what is due is shown up to a position, with so many unsettled rows, and the rest is still due
 abbrev pub Reaches : ReportView → ℕ → List Expected → ℕ → List Expected → ℕ → Type 0
 Reaches judged from wanted at left unsettled =
-    (dues : List Expected) (before : ℕ)
-    → ending_from judged from (wanted ++ dues) before
-    ≡ ending_from judged at (left ++ dues) (before + unsettled)
+    ReachesBy report_grammar judged from wanted at left unsettled
 
 -- ---- the whole
 
@@ -275,18 +210,9 @@ SaysTruly basis lines from next =
 -- a call that checks the part of one ask: it is whole, with a row for each line and each club, and
 -- tells the truth; or the reading stops at a line, whose number is returned
 abbrev pub ChecksPart : Basis → List NumberedLine → ℕ → Result Accepted CheckStop → Type 0
-ChecksPart basis lines from (Ok accepted) =
-    (part_ending basis lines from ≡ whole_at accepted.next accepted.unsettled)
-    × (accepted.rows ≡ length basis.sheet.lines * length basis.sheet.clubs)
-    × SaysTruly basis lines from accepted.next
-ChecksPart basis lines from (Err (stop.BadLine number)) =
-    (at : ℕ) × (at < length lines) × (part_ending basis lines from ≡ bad_line at)
-    × (number ≡ line_number_at lines at)
-ChecksPart basis lines from (Err (stop.NoProof number)) =
-    (at : ℕ) × (at < length lines) × (part_ending basis lines from ≡ no_proof at)
-    × (number ≡ line_number_at lines at)
-ChecksPart basis lines from (Err stop.Short) = part_ending basis lines from ≡ short
-ChecksPart basis lines from (Err stop.OutOfMemory) = Unit {0}
+ChecksPart basis lines from result =
+    ChecksWhole (part_ending basis lines from) lines
+    (length basis.sheet.lines * length basis.sheet.clubs) (SaysTruly basis lines from) result
 
 -- a call that looks for lines after a report: there is none that counts; or the first that does is
 -- returned

@@ -1,5 +1,5 @@
 -- What the calls promise, by what they return.
-use Rattle.std.specs.Prelude.{◌≡◌, ℕ, ◌+◌, ◌^◌, ◌<◌, ◌≤◌, Bool, true, false, List, [], ◌∷◌, ◌++◌}
+use Rattle.std.specs.Prelude.{◌≡◌, ℕ, ◌<◌, ◌≤◌, Bool, true, false, List, [], ◌∷◌, ◌++◌}
 use Rattle.std.specs.Prelude.{length, map, All, Option, None, Some, option_map, Result, Ok, Err}
 use Rattle.league_core.specs.declared.memory.OutOfMemory.{OutOfMemory}
 use Rattle.league_core.specs.declared.sheet.Sheet.{Sheet}
@@ -35,7 +35,7 @@ use Rattle.cert_check.specs.declared.outcome.CheckFailure.{CheckFailure}
 use Rattle.cert_check.specs.declared.outcome.CheckFailure.TheVariants as failure
 use Rattle.cert_check.specs.declared.expected.ReportKind.{ReportKind}
 use Rattle.cert_check.specs.Outcomes.{ReportInput, ReportProgressView, outcome_of, outcome_of_feed}
-use Rattle.cert_check.specs.Outcomes.{outcome_of_report, outcome_after}
+use Rattle.cert_check.specs.Outcomes.{PartedReport, entry_outcome, outcome_of_report}
 use Rattle.kept_lines.specs.LineLists.{numbered}
 
 -- ---- the whole input
@@ -268,18 +268,6 @@ CountsLines before now (Err lines_stop.OutOfMemory) = now ≡ before
 
 -- ---- the report
 
--- few enough entries were gone over for their numbers to be counted
-pub record IsCounted (standing : ReportProgressView) : Type 0 where
-  pub epoch : standing.epoch < 2 ^ 63
-  pub rows : standing.rows < 2 ^ 63
-  pub unsettled : standing.unsettled < 2 ^ 63
-
--- one entry adds one event at most, and one part
-pub record CountsOn (old new : ReportProgressView) : Type 0 where
-  pub epoch : new.epoch ≤ old.epoch + 1
-  pub rows : new.rows ≤ old.rows + 2 ^ 32
-  pub unsettled : new.unsettled ≤ old.unsettled + 2 ^ 32
-
 -- what a stop of the checker comes to, in an input that ends at this number
 abbrev pub IsRefusedBy : ℕ → CheckStop → Result CheckOutcome OutOfMemory → Type 0
 IsRefusedBy end (check_stop.BadLine number) result = result ≡ Ok (Refused number BadLine)
@@ -294,13 +282,13 @@ report_read kind sheet told =
     record { kind = kind; sheet = sheet; lines = told.lines; end = told.end }
 
 -- an entry is gone over: the report is read on from here; or it comes to this, whatever follows
-abbrev pub GoesOverEntry : ReportInput → ReportProgressView → ReportProgressView → Entry
+abbrev pub GoesOverEntry : PartedReport → ReportProgressView → ReportProgressView → Entry
     → Option CheckOutcome → Type 0
 GoesOverEntry report old new entry None =
     (onward : ReportProgressView → CheckOutcome)
-    → outcome_after report old entry onward ≡ onward new
+    → entry_outcome report old entry onward ≡ onward new
 GoesOverEntry report old new entry (Some outcome) =
-    (onward : ReportProgressView → CheckOutcome) → outcome_after report old entry onward ≡ outcome
+    (onward : ReportProgressView → CheckOutcome) → entry_outcome report old entry onward ≡ outcome
 
 -- ---- what comes after the sheet, and after the feed
 

@@ -14,24 +14,29 @@ use Rattle.cert_check.specs.Machine.{basis_of}
 use Rattle.cert_check.specs.inside.Calls.{SaysTruly}
 use Rattle.cert_check.specs.declared.outcome.CheckOutcome.TheVariants.{Accepted}
 use Rattle.cert_check.specs.Outcomes.{ReportInput, ReportProgressView, progress_with}
-use Rattle.cert_check.specs.Outcomes.{progress_after}
+use Rattle.cert_check.specs.Outcomes.{PartedReport, parted}
 use Rattle.cert_check.specs.Outcomes.{first_progress, outcome_of}
 use Rattle.kept_lines.specs.LineLists.{numbered}
 
--- each part from here on tells the truth of the season at its ask, when these entries of the feed
--- are left, and nothing that counts comes after the last
+-- each part from here on says what it has to, by where it begins and ends, when these entries of
+-- the feed are left, and nothing that counts comes after the last
+abbrev pub PartsSay : (ReportProgressView → ℕ → Type 0) → PartedReport → List Entry
+    → ReportProgressView → Type 0
+PartsSay Says report [] standing = counted_lines (drop standing.at (tokens_of report.lines)) ≡ []
+PartsSay Says report (Change event ∷ entries) standing =
+    PartsSay Says report entries (progress_with standing (Change event))
+PartsSay Says report (Ask ∷ entries) standing =
+    (next : ℕ) × (unsettled : ℕ) × Says standing next
+    × PartsSay Says report entries (report.behind standing next unsettled)
+PartsSay Says report (Proofs ∷ entries) standing = PartsSay Says report entries standing
+PartsSay Says report (End ∷ entries) standing = PartsSay Says report entries standing
+
+-- each tells the truth of the season at its ask
 abbrev pub PartsTellTruly : ReportInput → List Entry → ReportProgressView → Type 0
-PartsTellTruly report [] standing =
-    counted_lines (drop standing.at (tokens_of report.lines)) ≡ []
-PartsTellTruly report (Change event ∷ entries) standing =
-    PartsTellTruly report entries (progress_with standing (Change event))
-PartsTellTruly report (Ask ∷ entries) standing =
-    (next : ℕ) × (unsettled : ℕ)
-    × SaysTruly (basis_of report.kind report.sheet standing.season standing.epoch) report.lines
-    standing.at next
-    × PartsTellTruly report entries (progress_after report.sheet standing next unsettled)
-PartsTellTruly report (Proofs ∷ entries) standing = PartsTellTruly report entries standing
-PartsTellTruly report (End ∷ entries) standing = PartsTellTruly report entries standing
+PartsTellTruly report entries standing =
+    PartsSay (λ (it : ReportProgressView) next.
+    SaysTruly (basis_of report.kind report.sheet it.season it.epoch) report.lines it.at next)
+    (parted report) entries standing
 
 -- an input is a sheet, a feed that ends with the record `proofs`, and a report of it, of this kind,
 -- that tells the truth

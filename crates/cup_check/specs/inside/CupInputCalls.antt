@@ -1,5 +1,5 @@
 -- What the calls promise, by what they return.
-use Rattle.std.specs.Prelude.{◌≡◌, ℕ, ◌*◌, ◌≤◌, ◌^◌, List, Option, None, Some}
+use Rattle.std.specs.Prelude.{ℕ, ◌*◌, ◌≤◌, ◌^◌, List, Option}
 use Rattle.std.specs.Prelude.{Result, Ok, Err}
 use Rattle.league_core.specs.declared.sheet.Sheet.{Sheet}
 use Rattle.league_core.specs.game.Seasons.{IsSeasonOf}
@@ -16,11 +16,11 @@ use Rattle.cert_check.specs.declared.outcome.CheckOutcome.{CheckOutcome}
 use Rattle.cert_check.specs.declared.outcome.CheckFailure.{CheckFailure}
 use Rattle.cert_check.specs.declared.outcome.CheckFailure.TheVariants as failure
 use Rattle.cert_check.specs.Outcomes.{ReportProgressView}
-use Rattle.cert_check.specs.inside.InputCalls.{answer_after_check}
+use Rattle.cert_check.specs.inside.InputCalls.{GoesOverEntry, answer_after_check}
 use Rattle.cup_sheet.specs.declared.cup.Cup.{Cup}
 use Rattle.cup_check.specs.declared.outcome.CupOutcome.{CupOutcome}
 use Rattle.cup_check.specs.declared.outcome.CupOutcome.TheVariants.{BadCup, Judged}
-use Rattle.cup_check.specs.CupOutcomes.{CupReportInput, cup_outcome_after, outcome_of_cup_report}
+use Rattle.cup_check.specs.CupOutcomes.{CupReportInput, cup_parted, outcome_of_cup_report}
 
 -- ---- the whole input
 
@@ -55,8 +55,8 @@ cup_report_read cup told = record { cup = cup; lines = told.lines; end = told.en
 
 -- a season of the joint sheet and a place within the lines, few enough entries being gone over for
 -- the numbers to be counted
-pub record IsOnWay (sheet : Sheet) (lines : ℕ) (entries : ℕ) (standing : ReportProgressView)
-    : Type 0 where
+pub record IsProgressWithin (sheet : Sheet) (lines : ℕ) (entries : ℕ)
+    (standing : ReportProgressView) : Type 0 where
   pub season : IsSeasonOf sheet standing.season
   pub at : standing.at ≤ lines
   pub epoch : standing.epoch ≤ entries
@@ -66,9 +66,4 @@ pub record IsOnWay (sheet : Sheet) (lines : ℕ) (entries : ℕ) (standing : Rep
 -- an entry is gone over: the report is read on from here; or it comes to this, whatever follows
 abbrev pub GoesOverCupEntry : CupReportInput → ReportProgressView → ReportProgressView → Entry
     → Option CheckOutcome → Type 0
-GoesOverCupEntry report old new entry None =
-    (onward : ReportProgressView → CheckOutcome)
-    → cup_outcome_after report old entry onward ≡ onward new
-GoesOverCupEntry report old new entry (Some outcome) =
-    (onward : ReportProgressView → CheckOutcome)
-    → cup_outcome_after report old entry onward ≡ outcome
+GoesOverCupEntry report old new entry found = GoesOverEntry (cup_parted report) old new entry found

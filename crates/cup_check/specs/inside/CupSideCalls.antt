@@ -11,11 +11,13 @@ use Rattle.club_keys.specs.declared.club_key.ClubKey.{ClubKey}
 use Rattle.cert_check.specs.declared.stop.CheckStopAt.{CheckStopAt}
 use Rattle.cert_check.specs.declared.stop.CheckStopAt.TheVariants as halt
 use Rattle.cert_check.specs.LineGrammars.{Next, bad, go, Ending, by_next, bad_line, no_proof, short}
+use Rattle.cert_check.specs.inside.Goes.{GoesOnReading}
 use Rattle.cup_sheet.specs.GroupQuestions.{GroupQuestion}
 use Rattle.cup_grammar.specs.PlacedGroups.{CupBasis, PlacedGroup, groups_at, placed_groups}
 use Rattle.cup_text.specs.declared.cup_line.CupLine.{CupLine}
 use Rattle.cup_text.specs.declared.cup_line.CupLine.TheVariants as line
 use Rattle.cup_grammar.specs.CupDues.{CupDue, after_spent_line, groups_line, whole_group_tree}
+use Rattle.cup_grammar.specs.CupReports.{cup_grammar}
 use Rattle.cup_check.specs.inside.CupGoes.{CupReportView, cup_ending_from}
 
 -- what is due after the row of an ask, if it is that
@@ -46,22 +48,8 @@ next_ending_from judged next at dues unsettled =
 
 -- a call that has read a line after which this is due, and goes on over all of it
 abbrev pub TakesNextInCup : CupReportView → Next CupDue → ℕ → Result ℕ CheckStopAt → Type 0
-TakesNextInCup judged next at (Ok to) =
-    (to ≤ length judged.tokens)
-    × ((dues : List CupDue) (unsettled : ℕ) → next_ending_from judged next at dues unsettled
-    ≡ cup_ending_from judged to dues unsettled)
-TakesNextInCup judged next at (Err (halt.BadLine place)) =
-    (place < length judged.tokens)
-    × ((dues : List CupDue) (unsettled : ℕ)
-    → next_ending_from judged next at dues unsettled ≡ bad_line place)
-TakesNextInCup judged next at (Err (halt.NoProof place)) =
-    (place < length judged.tokens)
-    × ((dues : List CupDue) (unsettled : ℕ)
-    → next_ending_from judged next at dues unsettled ≡ no_proof place)
-TakesNextInCup judged next at (Err halt.Short) =
-    (dues : List CupDue) (unsettled : ℕ)
-    → next_ending_from judged next at dues unsettled ≡ short
-TakesNextInCup judged next at (Err halt.OutOfMemory) = Unit {0}
+TakesNextInCup judged next at result =
+    GoesOnReading cup_grammar judged (next_ending_from judged next at) result
 
 -- ---- what stands for a side
 

@@ -17,16 +17,16 @@ use Rattle.cup_grammar.specs.CupDues.{CupDue, cup_scores_due, ends_of_groups, is
 use Rattle.cup_check.specs.inside.CupGoes.{CupReportView, HaltsInCup, cup_ending_from}
 
 -- a season with other scores of the same fixtures
-pub record IsGroupOver (old new : Results) : Type 0 where
+pub record HasScoresOver (old new : Results) : Type 0 where
   pub scores : length new.scores ≡ length old.scores
   pub deductions : new.deductions ≡ old.deductions
 
 -- each group's season is gone over so
-abbrev pub AreGroupsOver : List Results → List Results → Type 0
-AreGroupsOver [] [] = Unit {0}
-AreGroupsOver (season ∷ seasons) (finish ∷ finishes) =
-    IsGroupOver season finish × AreGroupsOver seasons finishes
-AreGroupsOver _ _ = ⊥
+abbrev pub HaveScoresOver : List Results → List Results → Type 0
+HaveScoresOver [] [] = Unit {0}
+HaveScoresOver (season ∷ seasons) (finish ∷ finishes) =
+    HasScoresOver season finish × HaveScoresOver seasons finishes
+HaveScoresOver _ _ = ⊥
 
 -- what is due of a joint finish when the groups before this one have ended with these scores, and
 -- so many of its fixtures
@@ -79,7 +79,7 @@ abbrev pub GoesOverGroup : CupReportView → ℕ → PlacedGroup → Result (ℕ
     → Type 0
 GoesOverGroup judged from group (Ok found) =
     (found.0 ≤ length judged.tokens)
-    × IsGroupOver group.season found.1
+    × HasScoresOver group.season found.1
     × ((claim : Claim) (club : ℕ) (ended left : List (Option Score)) (dues : List CupDue)
     (unsettled : ℕ) → length ended ≡ group.start.fixture
     → cup_ending_from judged from

@@ -10,7 +10,7 @@ use Rattle.cup_sheet.specs.CupAnswers.{HasCupExample}
 use Rattle.cup_laws.specs.inside.CupTruths.{AreCupResults}
 use Rattle.cup_text.specs.declared.cup_line.CupLine.{CupLine}
 use Rattle.cup_text.specs.CupItems.{IsRefutedAtTurn}
-use Rattle.cup_text.specs.CupTexts.{ShowsInCup}
+use Rattle.cup_answers.specs.CupTexts.{ShowsInCup}
 use Rattle.answer_rows.specs.declared.word.Word.{Word}
 
 -- each side of each club has a joint finish that shows it, or lines that refute it

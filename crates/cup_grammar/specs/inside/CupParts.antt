@@ -1,8 +1,8 @@
 -- What the lines that are read for something due show, if each of them proves what it says: a true
 -- row, that a side is refuted, or a joint finish of it. A tree on which the budget was spent shows
 -- nothing of a club.
-use Rattle.std.specs.Prelude.{◌≡◌, ℕ, ℤ, false, IsTrue, List, [], ◌∷◌, ◌++◌, length, Option}
-use Rattle.std.specs.Prelude.{None}
+use Rattle.std.specs.Prelude.{◌≡◌, ℕ, ℤ, Bool, true, false, IsTrue, List, [], ◌∷◌, ◌++◌, length}
+use Rattle.std.specs.Prelude.{Option, None}
 use Rattle.league_core.specs.declared.question.Claim.{Claim}
 use Rattle.league_core.specs.declared.season.Score.{Score}
 use Rattle.league_core.specs.declared.zone.Literal.{Literal}
@@ -20,11 +20,9 @@ use Rattle.cup_sheet.specs.GroupQuestions.{GroupQuestion, has_group_reason}
 use Rattle.cup_sheet.specs.GroupTrees.{GroupTree, ZonesMeet, has_open_zone}
 use Rattle.cup_sheet.specs.JointFinishes.{GroupState}
 use Rattle.cup_sheet.specs.Qualifying.{qualifies_at}
-use Rattle.cup_text.specs.CupForms.{is_rising}
-use Rattle.cup_text.specs.declared.cup_line.CupLine.{CupLine}
-use Rattle.cup_text.specs.declared.cup_line.CupLine.TheVariants as line
+use Rattle.cup_text.specs.CupRanges.{is_cup_line}
 use Rattle.cup_grammar.specs.declared.token.CupToken.{CupToken}
-use Rattle.cup_grammar.specs.declared.token.CupToken.TheVariants.{Proof, Row}
+use Rattle.cup_grammar.specs.declared.token.CupToken.TheVariants.{Blank, Row, Proof, Unknown}
 use Rattle.cup_grammar.specs.PlacedGroups.{CupBasis, PlacedGroup}
 use Rattle.cup_grammar.specs.CupDues.{CupDue, ask_row, club_row, key_line, groups_line, tree_head}
 use Rattle.cup_grammar.specs.CupDues.{spent_head, finish_head, one_part, both_parts, nodes, score}
@@ -39,6 +37,19 @@ state_of_group group = record {
   sheet = group.sheet;
   results = group.season;
 }
+
+-- ---- lines
+
+-- the numbers of a proof line are such as its form has
+abbrev pub is_token_in_range : CupToken → Bool
+is_token_in_range Blank = true
+is_token_in_range (Row fields) = true
+is_token_in_range (Proof it) = is_cup_line it
+is_token_in_range Unknown = true
+
+-- so they are if the line was read
+abbrev pub IsReadInCup : CupToken → Type 0
+IsReadInCup token = IsTrue (is_token_in_range token)
 
 -- ---- trees
 
@@ -63,16 +74,6 @@ ShowsZones Refutation group question zones = AreRefutedInZones group question zo
 ShowsZones Spent group question zones = Unit {0}
 
 -- ---- sides
-
--- a list of groups rises: those that were read do
-abbrev pub HasRisingGroups : CupLine → Type 0
-HasRisingGroups (line.Groups groups) = IsTrue (is_rising groups.list)
-HasRisingGroups _ = Unit {0}
-
--- the same of any line
-abbrev pub IsReadInCup : CupToken → Type 0
-IsReadInCup (Proof it) = HasRisingGroups it
-IsReadInCup _ = Unit {0}
 
 -- the side is refuted, with this key
 abbrev pub IsRefutedWithKey : CupBasis → Claim → ℕ → List ℤ → Type 0

@@ -11,10 +11,10 @@ use Rattle.cert_check.specs.LineGrammars.{whole_at}
 use Rattle.cup_sheet.specs.Cups.{AreSeasonsOf, IsCup, clubs_together}
 use Rattle.cup_sheet.specs.Qualifying.{IsClinchedInCup, IsLostInCup, IsPossibleInCup}
 use Rattle.cup_laws.specs.inside.CupTruths.{AreCupResults}
+use Rattle.cup_text.specs.CupItems.{cup_club_name}
 use Rattle.cup_grammar.specs.declared.token.CupToken.{CupToken}
 use Rattle.cup_grammar.specs.declared.token.CupToken.TheVariants.{Blank, Row, Proof, Unknown}
 use Rattle.cup_grammar.specs.PlacedGroups.{CupBasis}
-use Rattle.cup_grammar.specs.CupExpected.{name_in_cup}
 use Rattle.cup_grammar.specs.CupReports.{cup_part_ending, cup_tokens_of}
 
 -- the line counts: it is not passed over
@@ -40,7 +40,7 @@ IsSaidTrulyInCup basis club word.Unsettled = Unit {0}
 abbrev pub IsTrueClubRow : CupBasis → ℕ → List CupToken → Type 0
 IsTrueClubRow basis club tokens =
     (word : RowWord) × (behind : List CupToken) × IsSaidTrulyInCup basis club word
-    × (tokens ≡ Row (verdict_fields basis.cup.quota (name_in_cup basis.cup club) word) ∷ behind)
+    × (tokens ≡ Row (verdict_fields basis.cup.quota (cup_club_name basis.cup club) word) ∷ behind)
 
 -- the lines are the rows of these clubs in their order, each with what comes after it, and each is
 -- true

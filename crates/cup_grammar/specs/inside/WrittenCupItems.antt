@@ -11,12 +11,12 @@ use Rattle.cert_check.specs.inside.Calls.{unsettled_in}
 use Rattle.cup_sheet.specs.Cups.{AreSeasonsOf, IsCup, clubs_together}
 use Rattle.cup_laws.specs.inside.CupTruths.{AreCupResults}
 use Rattle.cup_text.specs.CupItems.{ArePossibleLines, AreUnsettledLines, IsRefutedText}
+use Rattle.cup_text.specs.CupItems.{cup_club_name}
 use Rattle.cup_text.specs.declared.cup_line.CupLine.{CupLine}
 use Rattle.cup_grammar.specs.declared.token.CupToken.{CupToken}
 use Rattle.cup_grammar.specs.declared.token.CupToken.TheVariants.{Proof, Row}
 use Rattle.cup_grammar.specs.PlacedGroups.{CupBasis}
 use Rattle.cup_grammar.specs.CupDues.{CupDue, club_row}
-use Rattle.cup_grammar.specs.CupExpected.{name_in_cup}
 use Rattle.cup_grammar.specs.CupReports.{cup_ending_of, part_of_cup_ask}
 
 -- what is written with proofs after the row of a word
@@ -33,7 +33,7 @@ IsWrittenOfClub basis club word.Unsettled lines =
 -- the lines of a club: its row, and what comes after it
 abbrev pub item_in_cup : CupBasis → ℕ → RowWord → List CupLine → List CupToken
 item_in_cup basis club said lines =
-    Row (verdict_fields basis.cup.quota (name_in_cup basis.cup club) said) ∷ map Proof lines
+    Row (verdict_fields basis.cup.quota (cup_club_name basis.cup club) said) ∷ map Proof lines
 
 -- where the row of a club is due, what is written of it is read as whole, and the reading goes on
 -- behind it

@@ -16,7 +16,7 @@ use Rattle.cert_check.specs.declared.outcome.CheckOutcome.TheVariants.{Accepted}
 use Rattle.cup_sheet.specs.declared.cup.Cup.{Cup}
 use Rattle.cup_sheet.specs.Cups.{IsCup, clubs_together}
 use Rattle.cup_sheet.specs.CupFeeds.{joint_sheet, results_by_group}
-use Rattle.cup_text.specs.CupTexts.{IsCupItemText, IsGroupsText}
+use Rattle.cup_answers.specs.CupTexts.{IsCupItemText, IsGroupsText}
 use Rattle.cup_check.specs.CupOutcomes.{outcome_of_cup_report}
 use Rattle.report_laws.specs.inside.AcceptedAnswers.{unsettled_one}
 

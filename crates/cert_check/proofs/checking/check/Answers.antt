@@ -1,14 +1,13 @@
-use Rattle.std.proofs.Common.{subst, arith}
+use Rattle.std.proofs.Common.{◌*◌, Err, length, subst, sym}
 use Rattle.std.proofs.lemmas.List.{length-map}
-use Rattle.cert_check.specs.declared.stop.CheckStopAt.{CheckStopAt}
+use Rattle.cert_check.specs.declared.stop.CheckStop.{CheckStop}
 use Rattle.line_tokens.specs.Tokens.{token_of}
 use Rattle.kept_lines.specs.LineLists.{NumberedLine}
 use Rattle.line_tokens.specs.Tokens.{tokens_of}
-use Rattle.cert_check.specs.LineGrammars.{bad_line, no_proof, short}
-use Rattle.cert_check.specs.Machine.{part_of_ask}
-use Rattle.cert_check.specs.inside.Calls.{ReportView, AllHalt}
+use Rattle.cert_check.specs.Machine.{part_of_ask, report_grammar}
+use Rattle.cert_check.specs.inside.Calls.{ChecksPart, ReportView, SaysTruly}
 use Rattle.cert_check.specs.Machine.{basis_of}
-use Rattle.cert_check.proofs.ReachLemmas.{all_due, all_shown_ends}
+use Rattle.cert_check.proofs.GoesLemmas.{all_shown_ends, halts_within, stop_checks}
 use Rattle.cert_check.proofs.TruthLemmas.{told_truly}
 use Rattle.cert_check.proofs.checking.check.Goals as goal
 
@@ -19,56 +18,36 @@ returns-in-Ok c =
           c.args.asked.epoch;
       tokens = tokens_of c.args.lines.now;
     } in
-    let whole = all_shown_ends judged c.args.from (part_of_ask c.args.sheet.now) c.in-Ok.found
-    c.in-Ok.ensures in (
+    let whole = all_shown_ends report_grammar judged c.args.from (part_of_ask c.args.sheet.now)
+    c.in-Ok.found c.in-Ok.ensures in (
       whole,
       c.row_count.ensures,
       told_truly judged.basis c.args.lines.now c.args.from
           c.in-Ok.found.next c.in-Ok.found.unsettled whole,
     )
 
-pub returns-in-Err-BadLine : goal.returns-in-Err-BadLine
-returns-in-Err-BadLine c =
+pub by_number-requires : goal.by_number-requires
+by_number-requires c =
     let judged : ReportView = record {
       basis = basis_of c.args.asked.kind c.args.sheet.now c.args.season.now
           c.args.asked.epoch;
       tokens = tokens_of c.args.lines.now;
     } in
-    let part = part_of_ask c.args.sheet.now in
-    let P : CheckStopAt → Type 0 = λ it. AllHalt judged c.args.from part it in
-    let halts = subst P c.in-Err-BadLine.field-0-is (c.in-Err-BadLine.ensures {u = tt}) in
-    let shown = λ (it : NumberedLine). token_of it.text in (
-      c.in-Err-BadLine.at,
-      omega (arith, halts.0, length-map c.args.lines.now shown),
-      all_due judged c.args.from part (bad_line c.in-Err-BadLine.at) halts.1,
-      c.number.ensures,
-    )
+    halts_within report_grammar judged c.args.from (part_of_ask c.args.sheet.now)
+    (length c.args.lines.now) c.in-Err.stop
+    (length-map c.args.lines.now (λ (it : NumberedLine). token_of it.text)) c.in-Err.ensures
 
-pub returns-in-Err-NoProof : goal.returns-in-Err-NoProof
-returns-in-Err-NoProof c =
+pub returns-in-Err : goal.returns-in-Err
+returns-in-Err c =
     let judged : ReportView = record {
       basis = basis_of c.args.asked.kind c.args.sheet.now c.args.season.now
           c.args.asked.epoch;
       tokens = tokens_of c.args.lines.now;
     } in
-    let part = part_of_ask c.args.sheet.now in
-    let P : CheckStopAt → Type 0 = λ it. AllHalt judged c.args.from part it in
-    let halts = subst P c.in-Err-NoProof.field-0-is (c.in-Err-NoProof.ensures {u = tt}) in
-    let shown = λ (it : NumberedLine). token_of it.text in (
-      c.in-Err-NoProof.at,
-      omega (arith, halts.0, length-map c.args.lines.now shown),
-      all_due judged c.args.from part (no_proof c.in-Err-NoProof.at) halts.1,
-      c.number-in-Err-NoProof.ensures,
-    )
-
-pub returns-in-Err-Short : goal.returns-in-Err-Short
-returns-in-Err-Short c =
-    let judged : ReportView = record {
-      basis = basis_of c.args.asked.kind c.args.sheet.now c.args.season.now
-          c.args.asked.epoch;
-      tokens = tokens_of c.args.lines.now;
-    } in
-    let part = part_of_ask c.args.sheet.now in
-    let P : CheckStopAt → Type 0 = λ it. AllHalt judged c.args.from part it in
-    let halts = subst P c.in-Err-Short.field-0-is (c.in-Err-Short.ensures {u = tt}) in
-    all_due judged c.args.from part short halts
+    let sheet = c.args.sheet.now in
+    let lines = c.args.lines.now in
+    let Checks : CheckStop → Type 0 = λ it. ChecksPart judged.basis lines c.args.from (Err it) in
+    subst Checks (sym c.by_number.ensures)
+    (stop_checks report_grammar judged c.args.from (part_of_ask sheet) lines
+    (length sheet.lines * length sheet.clubs) (SaysTruly judged.basis lines c.args.from)
+    c.in-Err.stop (length-map lines (λ (it : NumberedLine). token_of it.text)) c.in-Err.ensures)

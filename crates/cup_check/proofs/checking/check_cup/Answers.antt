@@ -1,13 +1,16 @@
 -- What the reading of the part comes to, by the number of the line at which it stops; and what an
 -- accepted part says is true by the law.
-use Rattle.std.proofs.Common.{◌∙◌, ap, arith, subst}
+use Rattle.std.proofs.Common.{◌∙◌, Err, length, subst, sym}
 use Rattle.std.proofs.lemmas.List.{length-map}
-use Rattle.kept_lines.specs.LineLists.{NumberedLine, line_number_at}
-use Rattle.cert_check.specs.declared.stop.CheckStopAt.{CheckStopAt}
-use Rattle.cert_check.specs.LineGrammars.{bad_line, no_proof, short}
-use Rattle.cup_grammar.specs.CupReports.{cup_token_of, cup_tokens_of, part_of_cup_ask}
-use Rattle.cup_check.specs.inside.CupGoes.{AllHaltInCup, CupReportView}
-use Rattle.cup_check.proofs.CupReachLemmas.{all_due, all_shown_ends}
+use Rattle.kept_lines.specs.LineLists.{NumberedLine}
+use Rattle.cert_check.specs.declared.stop.CheckStop.{CheckStop}
+use Rattle.cert_check.proofs.GoesLemmas.{all_shown_ends, halts_within, stop_checks}
+use Rattle.cup_sheet.specs.Cups.{clubs_together}
+use Rattle.cup_grammar.specs.CupReports.{cup_grammar, cup_token_of, cup_tokens_of}
+use Rattle.cup_grammar.specs.CupReports.{part_of_cup_ask}
+use Rattle.cup_grammar.specs.inside.CupRowTruths.{SaysTrulyInCup}
+use Rattle.cup_check.specs.inside.CupCheckCalls.{ChecksCup}
+use Rattle.cup_check.specs.inside.CupGoes.{CupReportView}
 use Rattle.cup_check.proofs.checking.check_cup.Goals as goal
 
 pub returns-in-Ok : goal.returns-in-Ok
@@ -21,16 +24,16 @@ returns-in-Ok c =
       tokens = cup_tokens_of c.args.lines.now;
     } in
     let found = c.in-Ok.found in
-    let whole = all_shown_ends judged c.args.from (part_of_cup_ask c.args.cup.now) found
-    (c.in-Ok.ensures {u = tt}) in (
+    let whole = all_shown_ends cup_grammar judged c.args.from (part_of_cup_ask c.args.cup.now)
+    found (c.in-Ok.ensures {u = tt}) in (
       whole,
       c.from.ensures ∙ c.clubs.ensures,
       c.accepted_cup_parts_are_true.ensures judged.basis c.args.lines.now c.args.from found.next
           found.unsettled c.requires.cup c.requires.seasons c.recall_results.ensures whole,
     )
 
-pub returns-in-Err-BadLine : goal.returns-in-Err-BadLine
-returns-in-Err-BadLine c =
+pub by_number-requires : goal.by_number-requires
+by_number-requires c =
     let judged : CupReportView = record {
       basis = record {
         cup = c.args.cup.now;
@@ -39,18 +42,13 @@ returns-in-Err-BadLine c =
       };
       tokens = cup_tokens_of c.args.lines.now;
     } in
-    let part = part_of_cup_ask c.args.cup.now in
-    let P : CheckStopAt → Type 0 = λ it. AllHaltInCup judged c.args.from part it in
-    let halts = subst P c.in-Err-BadLine.field-0-is (c.in-Err-BadLine.ensures {u = tt}) in
-    let shown = λ (it : NumberedLine). cup_token_of it.text in (
-      c.in-Err-BadLine.at,
-      omega (arith, halts.0, length-map c.args.lines.now shown),
-      all_due judged c.args.from part (bad_line c.in-Err-BadLine.at) halts.1,
-      c.number.ensures ∙ ap (line_number_at c.args.lines.now) c.in-Err-BadLine.at-is,
-    )
+    halts_within cup_grammar judged c.args.from (part_of_cup_ask c.args.cup.now)
+    (length c.args.lines.now) c.in-Err.stop
+    (length-map c.args.lines.now (λ (it : NumberedLine). cup_token_of it.text))
+    (c.in-Err.ensures {u = tt})
 
-pub returns-in-Err-NoProof : goal.returns-in-Err-NoProof
-returns-in-Err-NoProof c =
+pub returns-in-Err : goal.returns-in-Err
+returns-in-Err c =
     let judged : CupReportView = record {
       basis = record {
         cup = c.args.cup.now;
@@ -59,28 +57,11 @@ returns-in-Err-NoProof c =
       };
       tokens = cup_tokens_of c.args.lines.now;
     } in
-    let part = part_of_cup_ask c.args.cup.now in
-    let P : CheckStopAt → Type 0 = λ it. AllHaltInCup judged c.args.from part it in
-    let halts = subst P c.in-Err-NoProof.field-0-is (c.in-Err-NoProof.ensures {u = tt}) in
-    let shown = λ (it : NumberedLine). cup_token_of it.text in (
-      c.in-Err-NoProof.at,
-      omega (arith, halts.0, length-map c.args.lines.now shown),
-      all_due judged c.args.from part (no_proof c.in-Err-NoProof.at) halts.1,
-      c.number-in-Err-NoProof.ensures
-          ∙ ap (line_number_at c.args.lines.now) c.in-Err-NoProof.at-is,
-    )
-
-pub returns-in-Err-Short : goal.returns-in-Err-Short
-returns-in-Err-Short c =
-    let judged : CupReportView = record {
-      basis = record {
-        cup = c.args.cup.now;
-        seasons = c.args.seasons.now;
-        epoch = c.args.epoch;
-      };
-      tokens = cup_tokens_of c.args.lines.now;
-    } in
-    let part = part_of_cup_ask c.args.cup.now in
-    let P : CheckStopAt → Type 0 = λ it. AllHaltInCup judged c.args.from part it in
-    let halts = subst P c.in-Err-Short.field-0-is (c.in-Err-Short.ensures {u = tt}) in
-    all_due judged c.args.from part short halts
+    let cup = c.args.cup.now in
+    let lines = c.args.lines.now in
+    let Checks : CheckStop → Type 0 = λ it. ChecksCup judged.basis lines c.args.from (Err it) in
+    subst Checks (sym c.by_number.ensures)
+    (stop_checks cup_grammar judged c.args.from (part_of_cup_ask cup) lines
+    (clubs_together cup.groups) (SaysTrulyInCup judged.basis lines c.args.from) c.in-Err.stop
+    (length-map lines (λ (it : NumberedLine). cup_token_of it.text))
+    (c.in-Err.ensures {u = tt}))

@@ -3,7 +3,7 @@ use Rattle.league_core.specs.game.Results.{Results}
 use Rattle.cert_check.specs.Outcomes.{ReportProgressView}
 use Rattle.cup_sheet.specs.CupFeeds.{joint_sheet}
 use Rattle.cup_check.specs.inside.CupCheckCalls.{ChecksCup}
-use Rattle.cup_check.specs.inside.CupInputCalls.{IsOnWay}
+use Rattle.cup_check.specs.inside.CupInputCalls.{IsProgressWithin}
 use Rattle.cup_check.proofs.CupEntryLemmas.{way-parted}
 use Rattle.cup_check.proofs.entries.take_part.Goals as goal
 
@@ -26,8 +26,8 @@ returns-in-Ok-clause-way c = λ entries.
       unsettled = c.standing.inside.unsettled + c.from-in-Ok.result;
     } in
     let P : ReportProgressView → Type 0 = λ old.
-    IsOnWay (joint_sheet cup) (length lines) entries old
-    → IsOnWay (joint_sheet cup) (length lines) (entries + 1) next in
+    IsProgressWithin (joint_sheet cup) (length lines) entries old
+    → IsProgressWithin (joint_sheet cup) (length lines) (entries + 1) next in
     let Q : List Results → Type 0 = λ seasons.
     ChecksCup (record { cup = cup; seasons = seasons; epoch = seen.epoch }) lines seen.at
     (Ok c.in-Ok.accepted) in

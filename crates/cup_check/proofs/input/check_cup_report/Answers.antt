@@ -1,12 +1,16 @@
 use Rattle.port_core.specs.Readers.{contents_to_come}
+use Rattle.cert_check.specs.Outcomes.{first_progress}
+use Rattle.cert_check.proofs.InputLemmas.{report-told, report-leaves, report-stop}
 use Rattle.cert_check.proofs.InputLemmas.{stop-leaves, lines-stop-counts}
-use Rattle.cup_check.proofs.CupInputLemmas.{report-told, report-leaves, report-stop}
+use Rattle.cup_sheet.specs.CupFeeds.{joint_sheet}
+use Rattle.cup_check.specs.CupOutcomes.{cup_parted, judged_cup_lines}
+use Rattle.cup_check.specs.inside.CupInputCalls.{cup_report_read}
 use Rattle.cup_check.proofs.input.check_cup_report.Goals as goal
 
 pub returns-in-Ok-cup_report_outcome-clause-outcome :
     goal.returns-in-Ok-cup_report_outcome-clause-outcome
 returns-in-Ok-cup_report_outcome-clause-outcome g c = λ contents is.
-    report-told c.args.feed.cup.now c.args.feed.entries.now c.in-Ok.told
+    report-told (judged_cup_lines c.args.feed.cup.now c.args.feed.entries.now) c.in-Ok.told
     c.in-Ok-cup_report_outcome.outcome
     contents
     (contents_to_come c.read_lines.new.reader (g.S.Source.left c.read_lines.new.source))
@@ -16,7 +20,8 @@ returns-in-Ok-cup_report_outcome-clause-outcome g c = λ contents is.
 pub returns-in-Ok-cup_report_outcome-clause-leaves :
     goal.returns-in-Ok-cup_report_outcome-clause-leaves
 returns-in-Ok-cup_report_outcome-clause-leaves g c =
-    report-leaves c.args.feed.cup.now c.args.feed.entries.now c.in-Ok.told
+    report-leaves (cup_parted (cup_report_read c.args.feed.cup.now c.in-Ok.told))
+    c.args.feed.entries.now (first_progress (joint_sheet c.args.feed.cup.now))
     c.in-Ok-cup_report_outcome.outcome
     c.read_lines.new.reader (g.S.Source.left c.read_lines.new.source) c.in-Ok.ensures.leaves
     c.in-Ok-cup_report_outcome.ensures
@@ -25,7 +30,7 @@ pub returns-in-Err-Read-clause-outcome : goal.returns-in-Err-Read-clause-outcome
 returns-in-Err-Read-clause-outcome g c = λ contents is.
     let answers = rw c.in-Err-Read.field-0-is at c.stopped.ensures in
     let reads = rw c.in-Err-Read.field-0-is at c.in-Err-Read.ensures.reads in
-    report-stop c.args.feed.cup.now c.args.feed.entries.now
+    report-stop (judged_cup_lines c.args.feed.cup.now c.args.feed.entries.now)
     c.in-Err-Read.stop c.stopped.result contents
     (contents_to_come c.read_lines.new.reader (g.S.Source.left c.read_lines.new.source))
     answers (reads contents is)

@@ -5,9 +5,11 @@ use Rattle.port_core.proofs.TakingLemmas.{TakesInput-more}
 use Rattle.result_log.specs.declared.entry.Entry.{Entry}
 use Rattle.result_log.specs.declared.fault.FeedStop.TheVariants as feed_stop
 use Rattle.cert_check.specs.inside.InputCalls.{ChecksBy, EndsFeed, IfRead, StopsFeed}
+use Rattle.cert_check.proofs.InputLemmas.{feed-proofs, feed-fault, feed-stop}
 use Rattle.cert_check.proofs.InputLemmas.{stop-leaves, feed-stop-counts}
+use Rattle.cup_sheet.specs.CupFeeds.{joint_sheet}
+use Rattle.cup_check.specs.CupOutcomes.{judged_cup_lines}
 use Rattle.cup_check.specs.inside.CupInputCalls.{outcome_after_cup_feed}
-use Rattle.cup_check.proofs.CupInputLemmas.{feed-proofs, feed-fault, feed-stop}
 use Rattle.cup_check.proofs.input.check_joint_feed.Goals as goal
 
 pub returns-in-Err-Fault-clause-outcome : goal.returns-in-Err-Fault-clause-outcome
@@ -17,7 +19,8 @@ returns-in-Err-Fault-clause-outcome g c = λ contents is.
     let after = contents_to_come c.read_feed.new.reader (g.S.Source.left c.read_feed.new.source) in
     let P : Sheet → Type 0 = λ s. StopsFeed s contents after stops.0
     (feed_stop.Fault c.in-Err-Fault.number c.in-Err-Fault.fault) in
-    rw c.in-Err-Fault.field-0-is (feed-fault c.args.cup.now
+    rw c.in-Err-Fault.field-0-is (feed-fault (judged_cup_lines c.args.cup.now)
+    (joint_sheet c.args.cup.now)
     (contents_to_come c.args.reader.now (g.S.Source.left c.args.source.now))
     after stops.0 c.in-Err-Fault.number c.in-Err-Fault.fault contents
     (subst P c.requires.of_cup stops.1))
@@ -30,7 +33,7 @@ returns-in-Err-Read-clause-outcome g c = λ contents is.
     let after = contents_to_come c.read_feed.new.reader (g.S.Source.left c.read_feed.new.source) in
     let P : Sheet → Type 0 = λ s. StopsFeed s contents after stops.0
     (feed_stop.Read c.in-Err-Read.stop) in
-    feed-stop c.args.cup.now
+    feed-stop (judged_cup_lines c.args.cup.now) (joint_sheet c.args.cup.now)
     (contents_to_come c.args.reader.now (g.S.Source.left c.args.source.now))
     after stops.0 c.in-Err-Read.stop c.stopped.result contents answers
     (subst P c.requires.of_cup stops.1)
@@ -59,7 +62,7 @@ returns-then-feed-clause-outcome g c =
     let P : List Entry → Type 0 = λ entries. IfRead mid (λ rest.
     ChecksBy (outcome_after_cup_feed c.args.cup.now entries) rest after
     c.check_cup_report.result) in
-    feed-proofs c.args.cup.now
+    feed-proofs (judged_cup_lines c.args.cup.now) (joint_sheet c.args.cup.now)
     (contents_to_come c.args.reader.now (g.S.Source.left c.args.source.now)) after mid
     c.in-Ok.feed.entries.items c.check_cup_report.result
     (λ contents is.

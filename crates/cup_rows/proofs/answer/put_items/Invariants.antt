@@ -1,5 +1,5 @@
 use Rattle.std.proofs.Common.{◌≡◌, take}
-use Rattle.cup_text.specs.CupTexts.{IsCupItemText}
+use Rattle.cup_answers.specs.CupTexts.{IsCupItemText}
 use Rattle.cup_rows.specs.inside.FoundClubs.{found_clubs}
 use Rattle.cup_rows.proofs.CupMadeLemmas.{ArePartsOut}
 use Rattle.cup_rows.proofs.answer.put_items.Given as goal

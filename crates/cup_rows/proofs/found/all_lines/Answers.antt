@@ -2,7 +2,7 @@ use Rattle.std.proofs.Common.{true, List, sym, subst}
 use Rattle.std.proofs.lemmas.List.Sums.{AllPass-from_list_all}
 use Rattle.cup_text.specs.declared.cup_line.CupLine.{CupLine}
 use Rattle.cup_text.specs.CupRanges.{is_cup_line}
-use Rattle.cup_text.specs.CupTexts.{ShowsInCup}
+use Rattle.cup_answers.specs.CupTexts.{ShowsInCup}
 use Rattle.cup_rows.specs.inside.VerdictLines.{word_of_finding}
 use Rattle.cup_rows.proofs.FoundFormLemmas.{HaveForms, found_fits}
 use Rattle.cup_rows.proofs.FoundWithinLemmas.{found_within}

@@ -1,6 +1,6 @@
 use Rattle.std.proofs.Common.{◌∙◌, arith}
 use Rattle.answer_rows.proofs.OutputLemmas.{due-more, due-front}
-use Rattle.cup_text.specs.CupTexts.{text_of_cup_lines}
+use Rattle.cup_answers.specs.CupTexts.{text_of_cup_lines}
 use Rattle.cup_rows.proofs.CupPutLemmas.{cup_lines-next}
 use Rattle.cup_rows.proofs.put.put_cup_lines.Goals as goal
 

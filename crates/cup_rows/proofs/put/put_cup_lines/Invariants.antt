@@ -1,6 +1,6 @@
 use Rattle.std.proofs.Common.{◌≡◌, drop}
 use Rattle.answer_rows.proofs.OutputLemmas.{IsDue}
-use Rattle.cup_text.specs.CupTexts.{text_of_cup_lines}
+use Rattle.cup_answers.specs.CupTexts.{text_of_cup_lines}
 use Rattle.cup_rows.proofs.put.put_cup_lines.Given as goal
 
 -- the lines from here on are due

@@ -2,6 +2,7 @@ use Rattle.std.proofs.Common.{Bool, List, subst}
 use Rattle.port_core.specs.Readers.{contents_to_come}
 use Rattle.port_core.proofs.TakingLemmas.{TakesInput-more}
 use Rattle.result_log.specs.declared.entry.Entry.{Entry}
+use Rattle.cert_check.specs.Outcomes.{judged_lines}
 use Rattle.cert_check.specs.inside.InputCalls.{ChecksBy, EndsFeed, IfRead, outcome_after_feed}
 use Rattle.cert_check.proofs.InputLemmas.{feed-proofs, feed-fault, feed-stop}
 use Rattle.cert_check.proofs.InputLemmas.{stop-leaves, feed-stop-counts}
@@ -11,7 +12,8 @@ pub returns-in-Err-Fault-clause-outcome : goal.returns-in-Err-Fault-clause-outco
 returns-in-Err-Fault-clause-outcome g c = λ contents is.
     let reads = rw c.in-Err-Fault.field-0-is at c.in-Err-Fault.ensures.reads in
     let stops = reads contents is in
-    rw c.in-Err-Fault.field-0-is (feed-fault c.args.kind c.args.sheet.now
+    rw c.in-Err-Fault.field-0-is (feed-fault
+    (judged_lines c.args.kind c.args.sheet.now) c.args.sheet.now
     (contents_to_come c.args.reader.now (g.S.Source.left c.args.source.now))
     (contents_to_come c.read_feed.new.reader (g.S.Source.left c.read_feed.new.source))
     stops.0 c.in-Err-Fault.number c.in-Err-Fault.fault contents stops.1)
@@ -21,7 +23,7 @@ returns-in-Err-Read-clause-outcome g c = λ contents is.
     let answers = rw c.in-Err-Read.field-0-is at c.stopped.ensures in
     let reads = rw c.in-Err-Read.field-0-is at c.in-Err-Read.ensures.reads in
     let stops = reads contents is in
-    feed-stop c.args.kind c.args.sheet.now
+    feed-stop (judged_lines c.args.kind c.args.sheet.now) c.args.sheet.now
     (contents_to_come c.args.reader.now (g.S.Source.left c.args.source.now))
     (contents_to_come c.read_feed.new.reader (g.S.Source.left c.read_feed.new.source))
     stops.0 c.in-Err-Read.stop c.stopped.result contents answers stops.1
@@ -49,7 +51,7 @@ returns-then-feed-clause-outcome g c =
     let P : List Entry → Type 0 = λ entries. IfRead mid (λ rest.
     ChecksBy (outcome_after_feed c.args.kind c.args.sheet.now entries) rest after
     c.check_report.result) in
-    feed-proofs c.args.kind c.args.sheet.now
+    feed-proofs (judged_lines c.args.kind c.args.sheet.now) c.args.sheet.now
     (contents_to_come c.args.reader.now (g.S.Source.left c.args.source.now)) after mid
     c.in-Ok.feed.entries.items c.check_report.result
     (λ contents is.

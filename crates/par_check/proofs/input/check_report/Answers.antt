@@ -1,12 +1,14 @@
 use Rattle.port_core.specs.Readers.{contents_to_come}
+use Rattle.cert_check.specs.Outcomes.{first_progress, judged_lines, parted}
+use Rattle.cert_check.specs.inside.InputCalls.{report_read}
 use Rattle.cert_check.proofs.InputLemmas.{report-told, report-leaves, report-stop}
 use Rattle.cert_check.proofs.InputLemmas.{stop-leaves, lines-stop-counts}
 use Rattle.par_check.proofs.input.check_report.Goals as goal
 
 pub returns-in-Ok-report_outcome-clause-outcome : goal.returns-in-Ok-report_outcome-clause-outcome
 returns-in-Ok-report_outcome-clause-outcome g c = λ contents is.
-    report-told c.args.course.kind c.args.course.sheet.now c.args.course.entries.now c.in-Ok.told
-    c.in-Ok-report_outcome.outcome
+    report-told (judged_lines c.args.course.kind c.args.course.sheet.now c.args.course.entries.now)
+    c.in-Ok.told c.in-Ok-report_outcome.outcome
     contents
     (contents_to_come c.read_lines.new.reader (g.S.Source.left c.read_lines.new.source))
     (contents_to_come c.read_lines.new.reader (g.S.Source.left c.read_lines.new.source))
@@ -14,7 +16,8 @@ returns-in-Ok-report_outcome-clause-outcome g c = λ contents is.
 
 pub returns-in-Ok-report_outcome-clause-leaves : goal.returns-in-Ok-report_outcome-clause-leaves
 returns-in-Ok-report_outcome-clause-leaves g c =
-    report-leaves c.args.course.kind c.args.course.sheet.now c.args.course.entries.now c.in-Ok.told
+    report-leaves (parted (report_read c.args.course.kind c.args.course.sheet.now c.in-Ok.told))
+    c.args.course.entries.now (first_progress c.args.course.sheet.now)
     c.in-Ok-report_outcome.outcome
     c.read_lines.new.reader (g.S.Source.left c.read_lines.new.source) c.in-Ok.ensures.leaves
     c.in-Ok-report_outcome.ensures
@@ -23,7 +26,7 @@ pub returns-in-Err-Read-clause-outcome : goal.returns-in-Err-Read-clause-outcome
 returns-in-Err-Read-clause-outcome g c = λ contents is.
     let answers = rw c.in-Err-Read.field-0-is at c.stopped.ensures in
     let reads = rw c.in-Err-Read.field-0-is at c.in-Err-Read.ensures.reads in
-    report-stop c.args.course.kind c.args.course.sheet.now c.args.course.entries.now
+    report-stop (judged_lines c.args.course.kind c.args.course.sheet.now c.args.course.entries.now)
     c.in-Err-Read.stop c.stopped.result contents
     (contents_to_come c.read_lines.new.reader (g.S.Source.left c.read_lines.new.source))
     answers (reads contents is)

@@ -4,9 +4,9 @@ use Rattle.std.proofs.lemmas.List.FromFn.{length-range_with_len}
 use Rattle.league_core.specs.game.Sheets.{clubs_of}
 use Rattle.std.proofs.lemmas.Result.{err_from_is_err_and}
 use Rattle.cert_check.specs.ExpectedItems.{verdict_row}
-use Rattle.cert_check.specs.Machine.{rows_on_line}
+use Rattle.cert_check.specs.Machine.{report_grammar, rows_on_line}
 use Rattle.cert_check.specs.inside.Calls.{Reaches}
-use Rattle.cert_check.proofs.ReachLemmas.{reach_halt, reach_on}
+use Rattle.cert_check.proofs.GoesLemmas.{reach_halt, reach_on}
 use Rattle.cert_check.proofs.report.Report.line.Goals as goal
 use Rattle.league_core.proofs.plain.Runs.{drop-range}
 
@@ -22,7 +22,7 @@ returns-in_err-item-clause-goes c =
     (rows_on_line it c.args.line) found.unsettled in
     let gone = err_from_is_err_and c.from_residual.result c.from_residual.ensures.1 in
     rw (gone.1, gone.2)
-    (reach_halt judged c.args.from found.next found.unsettled wanted
+    (reach_halt report_grammar judged c.args.from found.next found.unsettled wanted
     (verdict_row c.args.line c.loop-club.club ∷ [])
     (rows_on_line (drop (c.loop-club.club + 1) clubs) c.args.line) c.in_err-item.field-0.0
     (subst R (drop-range (length judged.basis.sheet.clubs) c.loop-club.club within)
@@ -40,7 +40,7 @@ loop-club-preserved c =
     (arith, c.clubs-club-end.ensures) in
     let R : List ℕ → Type 0 = λ it. Reaches judged c.args.from wanted found.next
     (rows_on_line it c.args.line) found.unsettled in
-    let on = reach_on judged c.args.from found.next found.unsettled wanted
+    let on = reach_on report_grammar judged c.args.from found.next found.unsettled wanted
     (verdict_row c.args.line c.loop-club.club ∷ []) later item
     (subst R (drop-range (length judged.basis.sheet.clubs) c.loop-club.club within)
     c.loop-club.invariant.2) c.in_ok-item.ensures.goes in

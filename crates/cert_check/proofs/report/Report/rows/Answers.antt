@@ -4,9 +4,9 @@ use Rattle.std.specs.List.{flat_map}
 use Rattle.std.proofs.lemmas.List.{drop_more}
 use Rattle.league_core.specs.game.Sheets.{clubs_of}
 use Rattle.std.proofs.lemmas.Result.{err_from_is_err_and}
-use Rattle.cert_check.specs.Machine.{rows_of, rows_on_line}
+use Rattle.cert_check.specs.Machine.{report_grammar, rows_of, rows_on_line}
 use Rattle.cert_check.specs.inside.Calls.{ReportView, Reaches}
-use Rattle.cert_check.proofs.ReachLemmas.{reach_halt, reach_on}
+use Rattle.cert_check.proofs.GoesLemmas.{reach_halt, reach_on}
 use Rattle.cert_check.proofs.report.Report.rows.Goals as goal
 
 pub returns-in_err-line : goal.returns-in_err-line
@@ -32,8 +32,9 @@ returns-in_err-line c =
     found.next (flat_map rows it) found.unsettled in
     let gone = err_from_is_err_and c.from_residual.result c.from_residual.ensures.1 in
     rw (gone.1, gone.2)
-    (reach_halt judged c.args.from found.next found.unsettled (rows_of judged.basis.sheet)
-    (rows number) (flat_map rows (drop (place + 1) lines)) c.in_err-line.field-0.0
+    (reach_halt report_grammar judged c.args.from found.next found.unsettled
+    (rows_of judged.basis.sheet) (rows number) (flat_map rows (drop (place + 1) lines))
+    c.in_err-line.field-0.0
     (subst R left c.loop-place.invariant.2) c.in_err-line.ensures.goes)
 
 pub loop-place-preserved : goal.loop-place-preserved
@@ -60,7 +61,7 @@ loop-place-preserved c =
     let wanted = rows_of judged.basis.sheet in
     let R : List ℕ → Type 0 = λ it. Reaches judged c.args.from wanted
     found.next (flat_map rows it) found.unsettled in
-    let on = reach_on judged c.args.from found.next found.unsettled wanted
+    let on = reach_on report_grammar judged c.args.from found.next found.unsettled wanted
     (rows number) later item (subst R left c.loop-place.invariant.2) c.in_ok-line.ensures.goes in
     let A : ℕ → Type 0 = λ it. Reaches judged c.args.from wanted it later
     (found.unsettled + item.unsettled) in

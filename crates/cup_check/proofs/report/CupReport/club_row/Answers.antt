@@ -2,4 +2,4 @@
 use Rattle.cup_check.proofs.report.CupReport.club_row.Goals as goal
 
 pub returns : goal.returns
-returns c = c.club_line-found.ensures c.args.from c.in_ok-at.ensures
+returns c = c.club_line.ensures c.args.from c.in_ok-at.ensures

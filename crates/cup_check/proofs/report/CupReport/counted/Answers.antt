@@ -7,10 +7,13 @@ use Rattle.cup_check.proofs.report.CupReport.counted.Goals as goal
 pub returns-then-counts_in_cup-clause-found : goal.returns-then-counts_in_cup-clause-found
 returns-then-counts_in_cup-clause-found c = record {
   behind = grind (arith, common_steps);
-  within = c.requires.in_range;
-  fits = c.requires.fits;
-  counted = grind (arith, common_steps);
-  in_range = c.in_ok-token.ensures.in_range;
+  within = c.requires.within;
+  fits = c.requires.room;
+  there = c.in_ok-token.ensures.there;
+  counted = record {
+    counts = grind (arith, common_steps);
+    in_range = c.in_ok-token.ensures.ranges;
+  };
   reads = line_reads c.args.self.now c.args.at c.in_ok-token.token c.in_ok-token.ensures.there;
 }
 

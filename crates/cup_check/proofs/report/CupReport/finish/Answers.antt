@@ -2,4 +2,4 @@
 use Rattle.cup_check.proofs.report.CupReport.finish.Goals as goal
 
 pub returns : goal.returns
-returns c = c.finish_in-behind.ensures c.args.from c.in_ok-at.ensures
+returns c = c.finish_token.ensures c.args.from c.in_ok-at.ensures

@@ -7,12 +7,13 @@ use Rattle.std.proofs.lemmas.List.FromFn.{length-range_with_len}
 use Rattle.std.proofs.lemmas.Result.{err_from_is_err_and}
 use Rattle.league_core.proofs.plain.Runs.{drop-range}
 use Rattle.club_keys.specs.inside.KeyEnds.{key_parts}
+use Rattle.cert_check.proofs.GoesLemmas.{reach_halt}
 use Rattle.cup_sheet.specs.GroupQuestions.{GroupQuestion}
 use Rattle.cup_sheet.specs.KeyBounds.{others_kind}
 use Rattle.cup_grammar.specs.CupDues.{CupDue, others_due, tree_head}
-use Rattle.cup_check.specs.inside.CupGoes.{AllHaltInCup, GoesInCup, ReachesInCup}
-use Rattle.cup_check.proofs.CupCallLemmas.{halts_as_list}
-use Rattle.cup_check.proofs.CupReachLemmas.{reach_after, reach_halt, reached_goes}
+use Rattle.cup_grammar.specs.CupReports.{cup_grammar}
+use Rattle.cup_check.specs.inside.CupGoes.{GoesInCup, HaltsInCup, ReachesInCup}
+use Rattle.cup_check.proofs.CupReachLemmas.{reach_after, reached_goes}
 use Rattle.cup_check.proofs.GroupTreeLemmas.{others_head}
 use Rattle.cup_check.proofs.report.CupReport.group_trees.Goals as goal
 
@@ -34,15 +35,15 @@ returns-in_err-at c =
     (others_due c.args.claim key group) c.loop-club.at (map head it) 0 in
     let same = others_head c.args.claim c.others_kind.result club c.args.key
     c.question_of.result c.others_kind.ensures c.question_of.ensures in
-    let H : GroupQuestion → Type 0 = λ it. AllHaltInCup judged c.loop-club.at
-    (tree_head group it ∷ []) c.in_err-at.field-0.0 in
+    let H : GroupQuestion → Type 0 = λ it. HaltsInCup judged c.loop-club.at (tree_head group it)
+    c.in_err-at.field-0.0 in
     let gone = err_from_is_err_and c.from_residual.result c.from_residual.ensures.1 in
     rw (gone.1, gone.2)
-    (reach_halt judged c.args.from c.loop-club.at 0 (others_due c.args.claim key group)
-    (head club ∷ []) (map head (drop (club + 1) clubs)) c.in_err-at.field-0.0
+    (reach_halt cup_grammar judged c.args.from c.loop-club.at 0
+    (others_due c.args.claim key group) (head club ∷ []) (map head (drop (club + 1) clubs))
+    c.in_err-at.field-0.0
     (subst R (drop-range (length group.sheet.clubs) club within) c.loop-club.invariant.1)
-    (subst H same (halts_as_list judged c.loop-club.at _ c.in_err-at.field-0.0
-    c.in_err-at.ensures)))
+    (subst H same c.in_err-at.ensures))
 
 pub loop-club-preserved : goal.loop-club-preserved
 loop-club-preserved c =

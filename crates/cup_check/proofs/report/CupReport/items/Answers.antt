@@ -6,9 +6,10 @@ use Rattle.std.proofs.lemmas.List.FromFn.{length-range_with_len}
 use Rattle.std.proofs.lemmas.Result.{err_from_is_err_and}
 use Rattle.league_core.proofs.plain.Runs.{drop-range}
 use Rattle.cup_sheet.specs.Cups.{clubs_together}
+use Rattle.cert_check.proofs.GoesLemmas.{reach_halt, reach_on}
 use Rattle.cup_grammar.specs.CupDues.{club_row}
+use Rattle.cup_grammar.specs.CupReports.{cup_grammar}
 use Rattle.cup_check.specs.inside.CupGoes.{ReachesInCup}
-use Rattle.cup_check.proofs.CupReachLemmas.{reach_halt, reach_on}
 use Rattle.cup_check.proofs.report.CupReport.items.Goals as goal
 
 pub returns-in_err-item : goal.returns-in_err-item
@@ -24,8 +25,8 @@ returns-in_err-item c =
     (map club_row it) found.unsettled in
     let gone = err_from_is_err_and c.from_residual.result c.from_residual.ensures.1 in
     rw (gone.1, gone.2)
-    (reach_halt judged c.args.from found.next found.unsettled wanted (club_row club ∷ [])
-    (map club_row (drop (club + 1) clubs)) c.in_err-item.field-0.0
+    (reach_halt cup_grammar judged c.args.from found.next found.unsettled wanted
+    (club_row club ∷ []) (map club_row (drop (club + 1) clubs)) c.in_err-item.field-0.0
     (subst R (drop-range together club within) c.loop-club.invariant.2) c.in_err-item.ensures.goes)
 
 pub loop-club-preserved : goal.loop-club-preserved
@@ -41,8 +42,9 @@ loop-club-preserved c =
     let within : club < together = omega (arith, c.clubs-club-end.ensures, c.loop-club-test.true) in
     let R : List ℕ → Type 0 = λ it. ReachesInCup judged c.args.from wanted found.next
     (map club_row it) found.unsettled in
-    let on = reach_on judged c.args.from found.next found.unsettled wanted (club_row club ∷ [])
-    later item (subst R (drop-range together club within) c.loop-club.invariant.2)
+    let on = reach_on cup_grammar judged c.args.from found.next found.unsettled wanted
+    (club_row club ∷ []) later item
+    (subst R (drop-range together club within) c.loop-club.invariant.2)
     c.in_ok-item.ensures.goes in
     let A : ℕ → Type 0 = λ it. ReachesInCup judged c.args.from wanted it later
     (found.unsettled + item.unsettled) in

@@ -4,7 +4,7 @@ use Rattle.std.proofs.lemmas.Result.{err_from_is_err_and}
 use Rattle.league_core.specs.game.Results.{Results}
 use Rattle.cup_grammar.specs.CupDues.{lots, scores_of_groups}
 use Rattle.cup_check.specs.inside.CupGoes.{GoesInCup}
-use Rattle.cup_check.specs.inside.JointCalls.{AreGroupsOver}
+use Rattle.cup_check.specs.inside.JointCalls.{HaveScoresOver}
 use Rattle.cup_check.proofs.JointCallLemmas.{ReachesGroup, all_over, group_limit, reach_ends}
 use Rattle.cup_check.proofs.JointCallLemmas.{reach_more, reach_stops}
 use Rattle.cup_check.proofs.report.CupReport.joint_finish.Goals as goal
@@ -43,7 +43,7 @@ pub joint_lots-requires-clause-over : goal.joint_lots-requires-clause-over
 joint_lots-requires-clause-over c =
     let judged = c.args.self.now in
     let past : length judged.basis.cup.groups ≤ c.loop-number.number = omega arith in
-    let A : List Results → Type 0 = λ it. AreGroupsOver judged.basis.seasons it in
+    let A : List Results → Type 0 = λ it. HaveScoresOver judged.basis.seasons it in
     subst A (sym c.as_slice.ensures)
     (all_over judged c.args.from c.args.side.claim c.args.side.club c.loop-number.at
     c.loop-number.finishes c.loop-number.number c.recall_invariant.ensures.of_groups past

@@ -7,7 +7,6 @@ use Rattle.cup_text.specs.declared.cup_line.CupLine.{CupLine}
 use Rattle.cup_grammar.specs.PlacedGroups.{groups_at, placed_groups}
 use Rattle.cup_grammar.specs.CupDues.{after_groups_in, may_be_listed, side_trees_due}
 use Rattle.cup_check.specs.inside.CupSideCalls.{TakesNextInCup}
-use Rattle.cup_check.proofs.CupSideLemmas.{as_taken}
 use Rattle.cup_check.proofs.report.CupReport.listed.Goals as goal
 
 pub returns-then-may_be_listed : goal.returns-then-may_be_listed
@@ -28,5 +27,5 @@ returns-then-may_be_listed c =
     let L : CupLine → Type 0 = λ it. TakesNextInCup judged
     (after_groups_in judged.basis claim club key (Some mine) it) c.args.at c.side_trees.result in
     let fits = sym c.if-may_be_listed.true ∙ c.may_be_listed.ensures in
-    let taken = as_taken judged c.args.at (due numbers) c.side_trees.result c.side_trees.ensures in
-    subst L (sym c.in-Groups.is) (subst N c.as_slice-numbers.ensures (subst T fits taken))
+    subst L (sym c.in-Groups.is)
+    (subst N c.as_slice-numbers.ensures (subst T fits c.side_trees.ensures))

@@ -1,7 +1,8 @@
 use Rattle.std.proofs.Common.{Bool, Ok, ◌∙◌, subst}
 use Rattle.std.proofs.lemmas.Result.{err_from_is_err_and}
+use Rattle.cert_check.proofs.GoesLemmas.{halts_along}
+use Rattle.cup_grammar.specs.CupReports.{cup_grammar}
 use Rattle.cup_check.specs.inside.CupTreeCalls.{GoesOverNode, group_nodes_due}
-use Rattle.cup_check.proofs.JointCallLemmas.{halts_along}
 use Rattle.cup_check.proofs.report.CupReport.nodes.Goals as goal
 
 pub loop-next-preserved : goal.loop-next-preserved
@@ -33,7 +34,7 @@ returns-in_err-next c =
     let judged = c.args.self.now in
     let gone = err_from_is_err_and c.from_residual.result c.from_residual.ensures.1 in
     rw (gone.1, gone.2)
-    (halts_along judged c.args.from c.loop-next.at
+    (halts_along cup_grammar judged c.args.from c.loop-next.at
     (group_nodes_due c.args.group.now c.args.wanted c.args.walk.now)
     (group_nodes_due c.args.group.now c.args.wanted c.loop-next.walk) c.in_err-next.field-0.0
     (λ dues unsettled. c.loop-next.invariant.3 dues unsettled) c.in_err-next.ensures.goes)

@@ -2,4 +2,4 @@
 use Rattle.cup_check.proofs.report.CupReport.one_part.Goals as goal
 
 pub returns : goal.returns
-returns c = c.part_in-behind.ensures c.args.from c.in_ok-at.ensures
+returns c = c.part_token.ensures c.args.from c.in_ok-at.ensures

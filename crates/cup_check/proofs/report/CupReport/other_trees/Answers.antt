@@ -8,9 +8,11 @@ use Rattle.std.proofs.lemmas.List.{drop_all, drop_more}
 use Rattle.std.proofs.lemmas.Result.{err_from_is_err_and}
 use Rattle.club_keys.specs.inside.KeyEnds.{key_parts}
 use Rattle.cup_grammar.specs.PlacedGroups.{PlacedGroup, groups_at, placed_groups}
+use Rattle.cert_check.proofs.GoesLemmas.{reach_halt}
 use Rattle.cup_grammar.specs.CupDues.{others_due}
+use Rattle.cup_grammar.specs.CupReports.{cup_grammar}
 use Rattle.cup_check.specs.inside.CupGoes.{ReachesInCup}
-use Rattle.cup_check.proofs.CupReachLemmas.{reach_after, reach_halt, reached_goes}
+use Rattle.cup_check.proofs.CupReachLemmas.{reach_after, reached_goes}
 use Rattle.cup_check.proofs.PlaceLemmas.{all_at, groups_at-cons, length-placed}
 use Rattle.cup_check.proofs.report.CupReport.other_trees.Goals as goal
 
@@ -42,7 +44,8 @@ returns-in_err-at c =
     (flat_map due (groups_at placed numbers)) c.loop-number.at (flat_map due it) 0 in
     let gone = err_from_is_err_and c.from_residual.result c.from_residual.ensures.1 in
     rw (gone.1, gone.2)
-    (reach_halt judged c.args.from c.loop-number.at 0 (flat_map due (groups_at placed numbers))
+    (reach_halt cup_grammar judged c.args.from c.loop-number.at 0
+    (flat_map due (groups_at placed numbers))
     (due c.group.result) (flat_map due later) c.in_err-at.field-0.0
     (subst R left c.loop-number.invariant.1) c.in_err-at.ensures)
 

@@ -3,9 +3,11 @@ use Rattle.std.proofs.Common.{◌+◌, List, Option, Ok, ap, subst, sym}
 use Rattle.league_core.specs.declared.season.Score.{Score}
 use Rattle.league_core.specs.game.Results.{Results}
 use Rattle.cert_check.specs.declared.stop.CheckStopAt.TheVariants.{BadLine}
+use Rattle.cert_check.proofs.GoesLemmas.{next_is_bad}
 use Rattle.cup_grammar.specs.CupDues.{score}
+use Rattle.cup_grammar.specs.CupReports.{cup_grammar}
 use Rattle.cup_check.specs.inside.JointCalls.{GoesOverScore}
-use Rattle.cup_check.proofs.JointCallLemmas.{next_is_bad, over_scored, score_stops}
+use Rattle.cup_check.proofs.JointCallLemmas.{over_scored, score_stops}
 use Rattle.cup_check.proofs.report.CupReport.score_line.Goals as goal
 
 pub returns-in-Some-clause-goes : goal.returns-in-Some-clause-goes
@@ -30,6 +32,6 @@ returns-in-None-clause-goes c = λ from next.
     let scores = c.args.finish.now.scores in
     score_stops judged from first fixture scores scores (BadLine c.args.at)
     c.requires.in_range c.requires.unplayed
-    (λ claim club ended left many. next_is_bad judged from c.args.at c.args.token.now
-    next (score claim club ended left)
+    (λ claim club ended left many. next_is_bad cup_grammar judged from c.args.at
+    c.args.token.now next (score claim club ended left)
     (c.in-None.ensures.score judged.basis claim club ended left c.requires.of_cup many))

@@ -3,12 +3,13 @@ use Rattle.std.proofs.Common.{◌∷◌, [], Err, Ok, ap, arith, subst}
 use Rattle.std.specs.List.{flat_map}
 use Rattle.std.proofs.lemmas.Result.{err_from_is_err_and}
 use Rattle.club_keys.specs.inside.KeyEnds.{key_parts}
+use Rattle.cert_check.proofs.GoesLemmas.{first_goes, first_halts}
 use Rattle.cup_sheet.specs.KeyBounds.{nearer_kind, place_kind}
 use Rattle.cup_groups.specs.declared.question.KindQuestion.{KindQuestion}
 use Rattle.cup_grammar.specs.PlacedGroups.{groups_at, own_club, placed_groups}
 use Rattle.cup_grammar.specs.CupDues.{CupDue, others_due, tree_head}
+use Rattle.cup_grammar.specs.CupReports.{cup_grammar}
 use Rattle.cup_check.specs.inside.CupGoes.{GoesInCup, HaltsInCup}
-use Rattle.cup_check.proofs.CupReachLemmas.{first_goes, first_halts}
 use Rattle.cup_check.proofs.CupSideLemmas.{from_start, nearer_due, own_below, place_due}
 use Rattle.cup_check.proofs.report.CupReport.side_trees.Goals as goal
 
@@ -54,7 +55,7 @@ returns-in_err-at c =
     c.own_club-own.ensures in
     let gone = err_from_is_err_and c.from_residual.result c.from_residual.ensures.1 in
     rw (gone.1, gone.2)
-    (first_halts judged c.args.from
+    (first_halts cup_grammar judged c.args.from
     (tree_head mine (record { kind = place_kind claim; club = own_club mine club; key = [] }))
     (nearer ∷ others) stop (subst H place c.in_err-at.ensures))
 
@@ -87,9 +88,9 @@ returns-in_err-behind c =
     let gone = err_from_is_err_and c.from_residual-in_err-behind.result
     c.from_residual-in_err-behind.ensures.1 in
     rw (gone.1, gone.2)
-    (first_goes judged c.args.from at first (second ∷ others) (Err stop)
+    (first_goes cup_grammar judged c.args.from at first (second ∷ others) (Err stop)
     (subst G place c.in_ok-at.ensures)
-    (first_halts judged at second others stop (subst H nearer c.in_err-behind.ensures)))
+    (first_halts cup_grammar judged at second others stop (subst H nearer c.in_err-behind.ensures)))
 
 pub returns : goal.returns
 returns c =
@@ -117,7 +118,7 @@ returns c =
     let nearer = nearer_due mine claim club c.own_club-own.result c.args.key
     c.nearer_kind.result c.question_of-nearer.result c.nearer_kind.ensures
     c.question_of-nearer.ensures c.own_club-own.ensures in
-    first_goes judged c.args.from at first (second ∷ others) c.other_trees.result
+    first_goes cup_grammar judged c.args.from at first (second ∷ others) c.other_trees.result
     (subst G place c.in_ok-at.ensures)
-    (first_goes judged at behind second others c.other_trees.result
+    (first_goes cup_grammar judged at behind second others c.other_trees.result
     (subst H nearer c.in_ok-behind.ensures) c.other_trees.ensures)

@@ -2,4 +2,4 @@
 use Rattle.cup_check.proofs.report.CupReport.spent.Goals as goal
 
 pub returns : goal.returns
-returns c = c.spent_in-behind.ensures c.args.from c.in_ok-at.ensures
+returns c = c.spent_token.ensures c.args.from c.in_ok-at.ensures

@@ -1,13 +1,13 @@
--- What the line at a position is keeps what its form keeps.
+-- What the line at a position is, is in the range of its form.
 use Rattle.std.proofs.Common.{◌≡◌, ◌+◌, ◌∷◌, drop, subst, Result, Ok, Err, ℕ, List}
 use Rattle.std.specs.Prelude.{IfOk, IsTrue}
 use Rattle.league_core.specs.declared.memory.OutOfMemory.{OutOfMemory}
 use Rattle.kept_lines.specs.LineLists.{NumberedLine}
 use Rattle.cup_grammar.specs.declared.token.CupToken.{CupToken}
 use Rattle.cup_grammar.specs.CupReports.{cup_tokens_of}
+use Rattle.cup_grammar.specs.inside.CupParts.{is_token_in_range}
+use Rattle.cup_grammar.proofs.ReadLineLemmas.{line_is_read}
 use Rattle.cup_check.specs.inside.CupGoes.{CupReportView}
-use Rattle.cup_check.specs.inside.CupLineRanges.{is_token_in_range}
-use Rattle.cup_check.proofs.LineRangeLemmas.{lines_keep}
 use Rattle.cup_check.proofs.report.CupReport.token.Goals as goal
 
 kept : (lines : List NumberedLine) (at : ℕ) (result : Result CupToken OutOfMemory)
@@ -15,7 +15,7 @@ kept : (lines : List NumberedLine) (at : ℕ) (result : Result CupToken OutOfMem
     (λ token. drop at (cup_tokens_of lines) ≡ token ∷ drop (at + 1) (cup_tokens_of lines))
     → IfOk result (λ token. IsTrue (is_token_in_range token))
 kept lines at (Ok token) there =
-    lines_keep lines at token (drop (at + 1) (cup_tokens_of lines)) there
+    line_is_read lines at token (drop (at + 1) (cup_tokens_of lines)) there
 kept lines at (Err stop) there = tt
 
 pub returns-clause-there : goal.returns-clause-there
@@ -24,6 +24,6 @@ returns-clause-there c =
     (λ (token : CupToken). drop c.args.at it.tokens ≡ token ∷ drop (c.args.at + 1) it.tokens) in
     subst P c.self.view_is c.cup_token_at.ensures
 
-pub returns-clause-in_range : goal.returns-clause-in_range
-returns-clause-in_range c =
+pub returns-clause-ranges : goal.returns-clause-ranges
+returns-clause-ranges c =
     kept c.self.inside.lines.now c.args.at c.cup_token_at.result c.cup_token_at.ensures

@@ -1,5 +1,5 @@
 use Rattle.std.proofs.Common.{subst}
-use Rattle.cup_check.specs.declared.tree.GroupWalk.{GroupWalk}
+use Rattle.cup_check.specs.declared.walk.GroupWalk.{GroupWalk}
 use Rattle.cup_check.specs.inside.CupGoes.{GoesInCup}
 use Rattle.cup_check.specs.inside.CupTreeCalls.{group_nodes_due}
 use Rattle.cup_check.proofs.report.CupReport.tree.Goals as goal

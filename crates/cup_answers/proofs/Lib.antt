@@ -1,0 +1,2 @@
+-- Items without proofs.
+pub mod UnprovedItemLemmas

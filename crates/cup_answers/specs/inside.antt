@@ -1,0 +1,2 @@
+-- That the answer of a cup needs no proofs.
+pub mod UnprovedItems
