@@ -2,6 +2,7 @@
 -- finishes; then rows and whole parts.
 pub mod CupTokenLemmas
 pub mod ReadLineLemmas
+pub mod ScoreTextLemmas
 pub mod GroupNodeLemmas
 pub mod PlacedGroupLemmas
 pub mod CupRefutationLemmas

@@ -1,13 +1,13 @@
 //! What one line of a report on a cup is, before it is known whether it may come there.
 
-ghost use Rattle.std.specs.Prelude.{◌≡◌, ◌<◌, ◌+◌, ◌∷◌, IfOk, drop, false, length};
+ghost use Rattle.std.specs.Prelude.{◌≡◌, ◌<◌, ◌+◌, ◌∷◌, IfOk, IfSome, Some, drop, false, length};
 ghost use Rattle.line_tokens.specs.Tokens.{begins_proof, token_of_row};
 ghost use Rattle.cup_text.specs.CupForms.{cup_line_in};
 ghost use Rattle.cup_grammar.specs.CupReports.{cup_token_of, cup_token_of_row, cup_tokens_of};
 ghost use Rattle.cup_grammar.specs.CupReports.{token_of_cup_line};
 ghost use Rattle.cup_grammar.specs.inside.CupRowTruths as truths;
 
-use cert_text::LineStop;
+use cert_text::{LineStop, ProofLine, read_line};
 use cup_text::{CupLine, read_cup_line};
 use fixture_sheet::Fields;
 use kept_lines::LineList;
@@ -49,6 +49,30 @@ fn is_proof(text: &[u8]) -> bool
 }
 
 fn proof_token(alloc: Global, text: &[u8]) -> Result<CupToken, OutOfMemory>
+    ensures { IfOk result (λ token. token ≡ token_of_cup_line (cup_line_in text.now)) }
+{
+    match score_line(alloc, text)? {
+        Some(line) => Ok(CupToken::Proof(line)),
+        None => token_by_json(alloc, text),
+    }
+}
+
+// The score of a fixture, of which most lines are: the reader of leagues' lines is quick.
+fn score_line(alloc: Global, text: &[u8]) -> Result<Option<CupLine>, OutOfMemory>
+    ensures { IfOk result (λ found. IfSome found (λ line. cup_line_in text.now ≡ Some line)) }
+{
+    if !text.starts_with(b"[\"score\",") {
+        return Ok(None);
+    }
+    match read_line(alloc, text) {
+        Ok(ProofLine::Score { fixture, score }) => Ok(Some(CupLine::Score { fixture, score })),
+        Ok(_) => Ok(None),
+        Err(LineStop::NoForm) => Ok(None),
+        Err(LineStop::OutOfMemory) => Err(OutOfMemory),
+    }
+}
+
+fn token_by_json(alloc: Global, text: &[u8]) -> Result<CupToken, OutOfMemory>
     ensures { IfOk result (λ token. token ≡ token_of_cup_line (cup_line_in text.now)) }
 {
     match read_cup_line(alloc, text) {
