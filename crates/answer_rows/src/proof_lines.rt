@@ -5,7 +5,7 @@ ghost use Rattle.cert_text.specs.TreeLines.{plain_line, marked_line, plain_lines
 ghost use Rattle.cert_text.specs.TreeLines.{with_tree_head, with_spent_head, with_window_head};
 ghost use Rattle.cert_text.specs.ExampleLines.{score_line_if, score_lines, example_lines};
 
-use cert_text::{ClubList, ProofLine};
+use cert_text::{ClubList, ProofLine, marked_line};
 use league_core::{Claim, Finish, Listing, Lots, OutOfMemory, Question, Score, Season, TreeNode};
 use std::alloc::Global;
 use tree_arena::Tree;
@@ -77,25 +77,6 @@ pub fn window_lines(
         lines.push(marked_line(*node))?;
     }
     Ok(lines)
-}
-
-// A node in a tree on which a budget was spent.
-fn marked_line(node: TreeNode) -> ProofLine
-    ensures { result ≡ marked_line node }
-{
-    match node {
-        TreeNode::Split { test, fresh: true } => ProofLine::NewSplit(test),
-        TreeNode::Split { test, fresh: false } => ProofLine::Split(test),
-        TreeNode::Open | TreeNode::Lent(_) => ProofLine::OpenLeaf,
-        TreeNode::Refuted {
-            reason,
-            fresh: true,
-        } => ProofLine::NewLeaf(reason),
-        TreeNode::Refuted {
-            reason,
-            fresh: false,
-        } => ProofLine::Leaf(reason),
-    }
 }
 
 /// An example of the claim: how the fixtures end that the season has no score for, and the lots.

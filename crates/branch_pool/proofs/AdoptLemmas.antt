@@ -28,6 +28,27 @@ use Rattle.branch_pool.proofs.GoodLemmas.{asked_there, sound_places, none_lent_a
 use Rattle.league_core.proofs.plain.Slots.{All-at, found_at, slice_get-set_same}
 use Rattle.league_core.proofs.plain.Slots.{slice_get-set_other}
 
+-- a question with what its season leaves of the tree is good
+pub adopted_good : (old : PoolView) (place : ℕ) (tree : Tree) (seat : QuestionState)
+    → IsSoundPool old → out_count old.loans ≡ 0 → slice_get old.seats place ≡ Some seat
+    → IsAskedTree old.sheet seat.question tree
+    → IsGoodSeat old.sheet old.season (seat_adopted old.sheet old.season tree seat)
+adopted_good old place tree seat sound home found asked =
+    let was_good = All-at (IsGoodSeat old.sheet old.season) old.seats place seat sound.seats
+    found in
+    retargeted_good old.sheet old.season tree seat seat.lent seat.example asked
+    (was_good.lent ∙ none_lent_at old place seat sound home found) was_good.example
+
+-- it lends nothing, as nothing is out
+pub adopted_due : (old : PoolView) (tree : Tree) (seat : QuestionState) (number place : ℕ)
+    → out_count old.loans ≡ 0
+    → lent_zones number [] (seat_adopted old.sheet old.season tree seat).tree
+    ≡ zones_due (present_epoch old) place (loan_at old.loans number)
+adopted_due old tree seat number place home =
+    lent_zones_absent number (retargeted old.sheet old.season seat.question tree) []
+    (times_lent-retargeted old.sheet old.season seat.question tree number)
+    ∙ sym (ap (zones_due (present_epoch old) place) (nothing_out old.loans number home))
+
 pub adopted_sound : (old : PoolView) (place : ℕ) (tree : Tree) (new : PoolView)
     → IsSoundPool old → Adopts old place tree new → IsSoundPool new
 adopted_sound old place tree new sound adopts =
@@ -39,29 +60,15 @@ adopted_sound old place tree new sound adopts =
       asked = asked-set old.seats place adopts.seat after adopts.found refl ∙ sound.asked;
       questions = sound.questions;
       most_questions = sound.most_questions;
-      seats = All-set (IsGoodSeat old.sheet old.season) old.seats place after good sound.seats;
+      seats = All-set (IsGoodSeat old.sheet old.season) old.seats place after
+          (adopted_good old place tree adopts.seat sound adopts.home adopts.found adopts.asked)
+          sound.seats;
       loans = rw (length-set old.seats place after) sound.loans;
       due = due;
     })
   where
     after : QuestionState
     after = seat_adopted old.sheet old.season tree adopts.seat
-
-    was_good : IsGoodSeat old.sheet old.season adopts.seat
-    was_good = All-at (IsGoodSeat old.sheet old.season) old.seats place adopts.seat sound.seats
-        adopts.found
-
-    good : IsGoodSeat old.sheet old.season after
-    good = retargeted_good old.sheet old.season tree adopts.seat adopts.seat.lent
-        adopts.seat.example adopts.asked
-        (was_good.lent ∙ none_lent_at old place adopts.seat sound adopts.home adopts.found)
-        was_good.example
-
-    nothing_due : (number other : ℕ)
-        → [] ≡ zones_due (present_epoch old) other (loan_at old.loans number)
-    nothing_due number other =
-        sym (ap (zones_due (present_epoch old) other)
-        (nothing_out old.loans number adopts.home))
 
     due : (number other : ℕ) (seat : QuestionState)
         → slice_get (set old.seats place after) other ≡ Some seat
@@ -76,10 +83,7 @@ adopted_sound old place tree new sound adopts =
               ∙ ap (slice_get (set old.seats place after)) (sym (eqb-true other place here))
               ∙ found) in
               ap (λ (s : QuestionState). lent_zones number [] s.tree) (sym same)
-              ∙ lent_zones_absent number
-              (retargeted old.sheet old.season adopts.seat.question tree) []
-              (times_lent-retargeted old.sheet old.season adopts.seat.question tree number)
-              ∙ nothing_due number other
+              ∙ adopted_due old tree adopts.seat number other adopts.home
           | inr elsewhere ↦
               sound.due number other seat
               (sym (slice_get-set_other old.seats place other after

@@ -6,6 +6,7 @@ pub mod CarriedLemmas
 pub mod StepLemmas
 pub mod GoodLemmas
 pub mod AdoptLemmas
+pub mod AdoptAllLemmas
 pub mod CallLemmas
 pub mod NextLemmas
 pub mod FromLemmas

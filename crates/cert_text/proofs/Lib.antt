@@ -16,5 +16,6 @@ pub mod ScoreLineLemmas
 pub mod PrintedLemmas
 pub mod ReadBackLemmas
 pub mod PlainNumberLemmas
+pub mod CutLemmas
 pub mod PlainFormLemmas
 pub mod WorkedLines

@@ -1,5 +1,6 @@
 -- Lines by their own texts: what is read of them makes the line.
-use Rattle.std.proofs.Common.{◌≡◌, ◌≤◌, ◌-◌, ℕ, true, ◌&&◌, List, [], ◌∷◌, ◌++◌, map, Some}
+use Rattle.std.proofs.Common.{◌≡◌, ◌≤◌, ◌-◌, ℕ, Bool, true, false, ◌&&◌, List, [], ◌∷◌, ◌++◌, map}
+use Rattle.std.proofs.Common.{Some}
 use Rattle.std.proofs.Common.{option_map, refl, sym, ap, ◌∙◌, arith, append_assoc, codes, decimal}
 use Rattle.std.specs.Prelude.{nat_le, option_and_then}
 use Rattle.std.specs.List.{list_all, join_with_byte}
@@ -10,6 +11,7 @@ use Rattle.league_core.specs.declared.club_set.ClubSet.{ClubSet}
 use Rattle.league_core.specs.declared.zone.Test.{Test}
 use Rattle.league_core.specs.declared.zone.Reason.{Reason}
 use Rattle.league_core.specs.declared.zone.Reason.TheVariants.{Low, High}
+use Rattle.league_core.specs.declared.tree.TreeNode.TheVariants.{Split, Refuted}
 use Rattle.league_core.specs.game.Limits.{most_clubs, most_fixtures}
 use Rattle.cert_text.specs.declared.proof_line.ProofLine.{ProofLine}
 use Rattle.cert_text.specs.declared.proof_line.ProofLine.TheVariants as line
@@ -20,7 +22,7 @@ use Rattle.cert_text.specs.Places.{set_listed, listed_clubs}
 use Rattle.cert_text.specs.Forms.{line_in}
 use Rattle.cert_text.specs.inside.PlainForms.{text_named, next_named, text_of_rest, AreClubsAtEnd}
 use Rattle.cert_text.specs.inside.PlainForms.{IsSetAtEnd, IsTestAtEnd, IsReasonAtEnd}
-use Rattle.cert_text.specs.inside.PlainForms.{IsNumberBefore}
+use Rattle.cert_text.specs.inside.PlainForms.{IsNumberBefore, IsLineOfNode, node_named}
 use Rattle.cert_text.specs.inside.Widths.{is_line_kept}
 use Rattle.cert_text.proofs.FormLemmas.{clubs_back}
 use Rattle.cert_text.proofs.ReadBackLemmas.{line_in-parts, line_in-written}
@@ -128,6 +130,21 @@ high_at_end text set told =
           refl all
           ∙ ap (λ found. option_map (λ r. line.NewLeaf r) (option_map (λ s. High s) found)) back;
     }
+
+-- ---- nodes
+
+-- a split, new or not
+pub node_split : (fresh : Bool) (test : Test) (text : List ℕ)
+    → IsTestAtEnd most_fixtures most_clubs text test
+    → IsLineOfNode (node_named fresh (codes "split") text) (Split test fresh)
+node_split true test text told = line_in-new_split test text told
+node_split false test text told = line_in-split test text told
+
+-- a leaf, new or not
+pub node_leaf : (fresh : Bool) (reason : Reason) (text : List ℕ) → IsReasonAtEnd text reason
+    → IsLineOfNode (node_named fresh (codes "leaf") text) (Refuted reason fresh)
+node_leaf true reason text told = told.new_leaf
+node_leaf false reason text told = told.leaf
 
 -- ---- numbers
 

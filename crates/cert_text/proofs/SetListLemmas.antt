@@ -20,7 +20,7 @@ abbrev pub IsListedSoFar : List ℕ → ℕ → ℕ → ℕ → Type 0
 IsListedSoFar clubs count least bits = set_listed clubs ≡ set_of_rest least bits (drop count clubs)
 
 -- the next club rises
-next_of_rest : (least bits club : ℕ) (rest : List ℕ) → least ≤ club → club < 24
+pub next_of_rest : (least bits club : ℕ) (rest : List ℕ) → least ≤ club → club < 24
     → set_of_rest least bits (club ∷ rest) ≡ set_of_rest (club + 1) (bits + 2 ^ club) rest
 next_of_rest least bits club rest rises below =
     ap (λ b. if b && is_club_number club && are_rising_from (club + 1) rest
@@ -35,6 +35,20 @@ next_of_rest least bits club rest rises below =
     together : bits + (2 ^ club + bits_at rest) ≡ bits + 2 ^ club + bits_at rest
     together = omega arith
 
+-- the bits with that of the next club are below those of clubs after it
+pub bits_more : (least bits club : ℕ) → least ≤ club → club < 24 → bits < 2 ^ least
+    → (club + 1 ≤ 24) × (bits + 1 * 2 ^ club % 2 ^ 32 < 2 ^ (club + 1))
+bits_more least bits club rises below fits =
+    let small : bits < 2 ^ club = omega (arith, fits, pow_mono rises) in
+    let both : bits + 2 ^ club < 2 ^ (club + 1) = more small in
+    let bit = power_fits club below in (omega (arith, below), omega (arith, both, bit))
+  where
+    more : bits < 2 ^ club → bits + 2 ^ club < 2 ^ (club + 1)
+    more small =
+        let double : 2 ^ (club + 1) ≡ 2 ^ club * 2 =
+        ap (λ n. 2 ^ n) (add-one club) ∙ pow-suc 2 club in
+        omega (arith, small, double)
+
 -- a club more was read
 pub listed_more : (clubs : List ℕ) (count least bits : ℕ) → count < length clubs
     → least ≤ get_or clubs count 0 → get_or clubs count 0 < 24 → bits < 2 ^ least
@@ -45,19 +59,12 @@ pub listed_more : (clubs : List ℕ) (count least bits : ℕ) → count < length
     (bits + 1 * 2 ^ get_or clubs count 0 % 2 ^ 32)
 listed_more clubs count least bits inside rises below fits so_far =
     let club = get_or clubs count 0 in
-    let small : bits < 2 ^ club = omega (arith, fits, pow_mono rises) in
-    let both : bits + 2 ^ club < 2 ^ (club + 1) = more bits club small in
-    let bit = power_fits club below in (
-      omega (arith, below),
-      omega (arith, both, bit),
+    let within = bits_more least bits club rises below fits in (
+      within.0,
+      within.1,
       so_far
           ∙ at_drop_more (set_of_rest least bits) clubs count 0 inside
           ∙ next_of_rest least bits club (drop (count + 1) clubs) rises below
-          ∙ ap (λ n. set_of_rest (club + 1) (bits + n) (drop (count + 1) clubs)) (sym bit),
+          ∙ ap (λ n. set_of_rest (club + 1) (bits + n) (drop (count + 1) clubs))
+          (sym (power_fits club below)),
     )
-  where
-    more : (bits club : ℕ) → bits < 2 ^ club → bits + 2 ^ club < 2 ^ (club + 1)
-    more bits club small =
-        let double : 2 ^ (club + 1) ≡ 2 ^ club * 2 =
-        ap (λ n. 2 ^ n) (add-one club) ∙ pow-suc 2 club in
-        omega (arith, small, double)

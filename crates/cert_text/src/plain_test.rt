@@ -3,29 +3,26 @@
 ghost use Rattle.std.specs.Prelude.{ℕ, IfSome, codes};
 ghost use Rattle.cert_text.specs.inside.PlainForms.{IsTestAtEnd, next_named};
 
-use crate::plain_number::{behind, is_all, number};
+use crate::plain_number::{is_all, number};
 use league_core::Test;
 use league_core::limits::MOST_GOALS;
 
 /// The test of a split, of one of so many fixtures or clubs, after its name.
+#[inline(always)]
 pub fn test(text: &[u8], fixtures: u16, clubs: u8) -> Option<Test>
     ensures { IfSome result (IsTestAtEnd fixtures clubs text.now) }
 {
-    if let Some(rest) = behind(text, b",\"rival\"") {
-        rival(rest, clubs)
-    } else if let Some(rest) = behind(text, b",\"home\"") {
-        home_win(rest, fixtures)
-    } else if let Some(rest) = behind(text, b",\"draw\"") {
-        drawn(rest, fixtures)
-    } else if let Some(rest) = behind(text, b",\"hg\"") {
-        home_most(rest, fixtures)
-    } else if let Some(rest) = behind(text, b",\"ag\"") {
-        away_most(rest, fixtures)
-    } else {
-        None
+    match text {
+        [b',', b'"', b'd', b'r', b'a', b'w', b'"', rest @ ..] => drawn(rest, fixtures),
+        [b',', b'"', b'h', b'o', b'm', b'e', b'"', rest @ ..] => home_win(rest, fixtures),
+        [b',', b'"', b'r', b'i', b'v', b'a', b'l', b'"', rest @ ..] => rival(rest, clubs),
+        [b',', b'"', b'h', b'g', b'"', rest @ ..] => home_most(rest, fixtures),
+        [b',', b'"', b'a', b'g', b'"', rest @ ..] => away_most(rest, fixtures),
+        _ => None,
     }
 }
 
+#[inline(always)]
 fn rival(text: &[u8], clubs: u8) -> Option<Test>
     ensures { (fixtures : ℕ) → IfSome result
         (IsTestAtEnd fixtures clubs (next_named (codes "rival") text.now)) }
@@ -39,6 +36,7 @@ fn rival(text: &[u8], clubs: u8) -> Option<Test>
     }
 }
 
+#[inline(always)]
 fn home_win(text: &[u8], fixtures: u16) -> Option<Test>
     ensures { (clubs : ℕ) → IfSome result
         (IsTestAtEnd fixtures clubs (next_named (codes "home") text.now)) }
@@ -52,6 +50,7 @@ fn home_win(text: &[u8], fixtures: u16) -> Option<Test>
     }
 }
 
+#[inline(always)]
 fn drawn(text: &[u8], fixtures: u16) -> Option<Test>
     ensures { (clubs : ℕ) → IfSome result
         (IsTestAtEnd fixtures clubs (next_named (codes "draw") text.now)) }
@@ -65,6 +64,7 @@ fn drawn(text: &[u8], fixtures: u16) -> Option<Test>
     }
 }
 
+#[inline(always)]
 fn home_most(text: &[u8], fixtures: u16) -> Option<Test>
     ensures { (clubs : ℕ) → IfSome result
         (IsTestAtEnd fixtures clubs (next_named (codes "hg") text.now)) }
@@ -79,6 +79,7 @@ fn home_most(text: &[u8], fixtures: u16) -> Option<Test>
     }
 }
 
+#[inline(always)]
 fn away_most(text: &[u8], fixtures: u16) -> Option<Test>
     ensures { (clubs : ℕ) → IfSome result
         (IsTestAtEnd fixtures clubs (next_named (codes "ag") text.now)) }

@@ -1,6 +1,9 @@
 //! The lines of proofs: nodes of trees in preorder, and examples.
 
-use league_core::{Claim, Listing, Reason, Score, Test};
+ghost use Rattle.std.specs.Prelude.{◌≡◌};
+ghost use Rattle.cert_text.specs.TreeLines.{marked_line};
+
+use league_core::{Claim, Listing, Reason, Score, Test, TreeNode};
 
 /// Clubs by their numbers from 0, the first in the lots first. It need not name each club.
 #[derive(Drop)]
@@ -33,4 +36,23 @@ pub enum ProofLine {
     Score { fixture: u16, score: Score },
     /// The lots of an example.
     Lots(ClubList),
+}
+
+/// The line of a node in a tree whose new nodes are marked.
+pub fn marked_line(node: TreeNode) -> ProofLine
+    ensures { result ≡ marked_line node }
+{
+    match node {
+        TreeNode::Split { test, fresh: true } => ProofLine::NewSplit(test),
+        TreeNode::Split { test, fresh: false } => ProofLine::Split(test),
+        TreeNode::Open | TreeNode::Lent(_) => ProofLine::OpenLeaf,
+        TreeNode::Refuted {
+            reason,
+            fresh: true,
+        } => ProofLine::NewLeaf(reason),
+        TreeNode::Refuted {
+            reason,
+            fresh: false,
+        } => ProofLine::Leaf(reason),
+    }
 }

@@ -39,7 +39,8 @@ pub fn read_token(alloc: Global, text: &[u8]) -> Result<Token, OutOfMemory>
     }
 }
 
-fn begins_proof(text: &[u8]) -> bool
+/// The text begins as a proof line does.
+pub fn begins_proof(text: &[u8]) -> bool
     ensures { result ≡ begins_proof text.now }
 {
     match text {

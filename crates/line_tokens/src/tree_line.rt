@@ -1,11 +1,12 @@
 //! Which node of a tree a line stands for.
 
-ghost use Rattle.std.specs.Prelude.{◌≡◌};
+ghost use Rattle.std.specs.Prelude.{◌≡◌, Some, IfSome};
+ghost use Rattle.line_tokens.specs.Tokens.{token_of};
 ghost use Rattle.line_tokens.specs.TreeNodes.{node_in, near_node_in, wide_node_in};
 ghost use Rattle.line_tokens.specs.inside.NodeCalls.{node_of_token};
 
-use crate::token::Token;
-use cert_text::ProofLine;
+use crate::token::{Token, begins_proof};
+use cert_text::{ProofLine, node_in_line};
 use league_core::TreeNode;
 use wide_lines::{WideNode, WideReason, widened};
 
@@ -28,6 +29,20 @@ pub fn node_of(kind: TreeKind, token: &Token) -> Option<TreeNode>
             TreeKind::Spent => spent_node(line),
         },
         _ => None,
+    }
+}
+
+/// The node of a spent tree whose own line a text is: its token stands for that node, and is not
+/// made. It may find nothing in another text of such a line.
+#[inline(always)]
+pub fn spent_node_in(text: &[u8]) -> Option<TreeNode>
+    ensures { IfSome result (λ node.
+        node_of_token TreeKind.Spent (token_of text.now) ≡ Some node) }
+{
+    if begins_proof(text) {
+        node_in_line(text)
+    } else {
+        None
     }
 }
 

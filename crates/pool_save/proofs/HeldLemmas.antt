@@ -5,7 +5,7 @@ use Rattle.std.proofs.Common.{length-append, append-nil, arith, subst, is_some}
 use Rattle.std.specs.Prelude.{if◌then◌else◌}
 use Rattle.std.proofs.lemmas.List.{map-append, reverse-append, drop_more, drop_all}
 use Rattle.std.specs.List.{slice_get}
-use Rattle.std.proofs.lemmas.Option.{slice_get_within}
+use Rattle.std.proofs.lemmas.Option.{none-some, slice_get_within}
 use Rattle.league_core.specs.declared.sheet.Sheet.{Sheet}
 use Rattle.league_core.specs.declared.question.Question.{Question}
 use Rattle.league_core.specs.declared.club_set.ClubSet.{ClubSet}
@@ -19,9 +19,13 @@ use Rattle.league_core.specs.search.Trees.{Tree}
 use Rattle.pool_save.specs.SavedReadings.{SaveState, leaf_taken, filled_places, item_begun}
 use Rattle.pool_save.specs.SavedReadings.{is_row_of}
 use Rattle.pool_save.specs.SavedReadings.{goes_on, bad, node_taken, node_taken_if}
-use Rattle.pool_save.specs.SavedReadings.{question_due}
+use Rattle.pool_save.specs.SavedReadings.{question_due, save_taken}
 use Rattle.pool_save.specs.SavedReadings.{may_split, split_taken, with_rival}
+use Rattle.line_tokens.specs.declared.token.Token.{Token}
+use Rattle.line_tokens.specs.declared.token.Token.TheVariants.{Blank, Row, Proof, Near, Unknown}
+use Rattle.line_tokens.specs.declared.tree_line.TreeKind.TheVariants.{Spent}
 use Rattle.line_tokens.specs.LineRanges.{is_reason_for}
+use Rattle.line_tokens.specs.inside.NodeCalls.{node_of_token}
 use Rattle.pool_save.specs.inside.SoFar.{IsDrafted, IsItemSoFar, IsSaveState}
 use Rattle.pool_save.proofs.DraftLemmas.{open_taken, refuted_taken}
 use Rattle.pool_save.proofs.SoFarLemmas.{made_there}
@@ -113,6 +117,18 @@ begun-never sheet asked trees fields none =
     ap (λ rest. item_begun sheet rest trees fields) (drop_all (length trees) asked none)
 
 -- ---- nodes
+
+-- a line that stands for a node is taken as that node
+pub node-taken : (sheet : Sheet) (asked : List Question) (state : SaveState) (token : Token)
+    (node : TreeNode) → node_of_token Spent token ≡ Some node
+    → save_taken sheet asked state token
+    ≡ node_taken_if sheet (question_due asked state) state (Some node)
+node-taken sheet asked state Blank node is = absurd (none-some node is)
+node-taken sheet asked state (Row fields) node is = absurd (none-some node is)
+node-taken sheet asked state (Proof line) node is =
+    ap (node_taken_if sheet (question_due asked state) state) is
+node-taken sheet asked state (Near rival fresh) node is = absurd (none-some node is)
+node-taken sheet asked state Unknown node is = absurd (none-some node is)
 
 -- all but what must come yet is as before
 leaf-same : (trees : List (Option Tree)) (nodes : List TreeNode) (was now : List (List ℕ))

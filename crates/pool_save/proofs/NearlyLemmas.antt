@@ -43,7 +43,8 @@ use Rattle.branch_pool.specs.inside.Goodness.{IsSoundPool}
 use Rattle.branch_pool.proofs.GoodLemmas.{none_lent_at}
 use Rattle.verdict_run.specs.inside.Working.{AreSettled, FinishesWork}
 use Rattle.verdict_run.proofs.SettledLemmas.{settled_at}
-use Rattle.pool_save.specs.inside.TakingUp.{seat_taken_up, seats_taken_up, pool_taken_up, TakesUp}
+use Rattle.branch_pool.specs.inside.Adoptions.{seat_adopted_if, seats_adopted, pool_adopted}
+use Rattle.pool_save.specs.inside.TakingUp.{TakesUp}
 use Rattle.pool_save.specs.NearlyDone.{HasReasonIfOpen, IsNearlyRefuted}
 use Rattle.tree_arena.specs.OpenCounts.{open_count}
 use Rattle.pool_save.specs.inside.Nearly.{IsNearlyKnown, IsNearlyAt, IsNewIfNone}
@@ -255,21 +256,21 @@ nearly_unspent pool place nearly sound home settled spent =
 taken_at : (sheet : Sheet) (season : Results) (seats : List QuestionState)
     (trees : List (Option Tree)) (place : ℕ) (seat : QuestionState) (saved : Option Tree)
     → slice_get seats place ≡ Some seat → slice_get trees place ≡ Some saved
-    → slice_get (seats_taken_up sheet season seats trees) place
-    ≡ Some (seat_taken_up sheet season saved seat)
+    → slice_get (seats_adopted sheet season seats trees) place
+    ≡ Some (seat_adopted_if sheet season saved seat)
 taken_at sheet season [] trees place seat saved found own = absurd (none-some seat found)
 taken_at sheet season (first ∷ seats) [] place seat saved found own =
     absurd (none-some saved own)
 taken_at sheet season (first ∷ seats) (tree ∷ trees) zero seat saved found own =
-    ap (λ s. Some (seat_taken_up sheet season tree s)) (same_Some first seat found)
-    ∙ ap (λ t. Some (seat_taken_up sheet season t seat)) (same_Some tree saved own)
+    ap (λ s. Some (seat_adopted_if sheet season tree s)) (same_Some first seat found)
+    ∙ ap (λ t. Some (seat_adopted_if sheet season t seat)) (same_Some tree saved own)
 taken_at sheet season (first ∷ seats) (tree ∷ trees) (suc place) seat saved found own =
     taken_at sheet season seats trees place seat saved found own
 
 -- a question that goes on from a saved tree that was nearly done is nearly refuted
 pub taken_nearly : (sheet : Sheet) (season : Results) (seat : QuestionState) (saved : Option Tree)
     → IsNewIfNone seat saved → IsNearlyDone sheet season seat.question saved
-    → IsNearlyKnown sheet season (seat_taken_up sheet season saved seat)
+    → IsNearlyKnown sheet season (seat_adopted_if sheet season saved seat)
 taken_nearly sheet season seat (Some tree) fresh nearly = inr nearly
 taken_nearly sheet season seat None fresh nearly =
     subst (IsNearlyKnown sheet season) (sym fresh)
@@ -288,9 +289,9 @@ saved_unspent old taken new trees place seat saved takes finishes sound found ow
     (subst (λ pool. IsNearlyAt pool place) (sym takes) there))
     sound finishes.home finishes.settled
   where
-    there : IsNearlyAt (pool_taken_up old trees) place
+    there : IsNearlyAt (pool_adopted old trees) place
     there other at =
         subst (IsNearlyKnown old.sheet old.season)
-        (same_Some (seat_taken_up old.sheet old.season saved seat) other
+        (same_Some (seat_adopted_if old.sheet old.season saved seat) other
         (sym (taken_at old.sheet old.season old.seats trees place seat saved found own) ∙ at))
         (taken_nearly old.sheet old.season seat saved fresh nearly)

@@ -14,8 +14,8 @@ use Rattle.fixture_sheet.specs.inside.Calls.{TakesLines}
 use Rattle.line_tokens.specs.Tokens.{token_of}
 use Rattle.pool_save.specs.declared.stop.SaveStop.{SaveStop}
 use Rattle.pool_save.specs.declared.stop.SaveStop.TheVariants.{BadSave, Read}
-use Rattle.pool_save.specs.declared.so_far.Taken.{Taken}
-use Rattle.pool_save.specs.declared.so_far.Taken.TheVariants.{On, Whole, Bad}
+use Rattle.pool_save.specs.declared.taken.Taken.{Taken}
+use Rattle.pool_save.specs.declared.taken.Taken.TheVariants.{On, Whole, Bad}
 use Rattle.pool_save.specs.SavedReadings.{SaveState, SaveStep, goes_on, whole, bad}
 use Rattle.pool_save.specs.SavedReadings.{nothing_saved}
 use Rattle.pool_save.specs.SavedReadings.{save_taken, saved_reading_by, saved_reading_from}

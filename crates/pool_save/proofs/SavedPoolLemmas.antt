@@ -16,7 +16,8 @@ use Rattle.branch_pool.specs.inside.Steps.{seat_lent, seat_after}
 use Rattle.branch_pool.specs.inside.Runs.{WorksNext}
 use Rattle.verdict_run.specs.inside.Working.{WorksTo, no_turn, one_turn_more}
 use Rattle.verdict_run.proofs.WorkLemmas.{works_same}
-use Rattle.pool_save.specs.inside.TakingUp.{TakesUp, seat_taken_up, seats_taken_up, pool_taken_up}
+use Rattle.branch_pool.specs.inside.Adoptions.{seat_adopted_if, seats_adopted, pool_adopted}
+use Rattle.pool_save.specs.inside.TakingUp.{TakesUp}
 use Rattle.pool_save.specs.NearlyDone.{IsNearlyDone}
 use Rattle.pool_save.specs.inside.Nearly.{IsNearlyKnown, IsNewIfNone}
 use Rattle.pool_save.specs.inside.SavedPools.{AreNearlySaved}
@@ -31,14 +32,14 @@ new_if_none question (Some tree) = tt
 
 -- the question stays
 taken_question : (sheet : Sheet) (season : Results) (question : Question) (saved : Option Tree)
-    → (seat_taken_up sheet season saved (new_seat question)).question ≡ question
+    → (seat_adopted_if sheet season saved (new_seat question)).question ≡ question
 taken_question sheet season question None = refl
 taken_question sheet season question (Some tree) = refl
 
 -- of new questions those whose saved trees were nearly done are nearly known
 seats_nearly : (sheet : Sheet) (season : Results) (asked : List Question)
     (trees : List (Option Tree)) (place : ℕ) (seat : QuestionState) (saved : Option Tree)
-    → slice_get (seats_taken_up sheet season (map new_seat asked) trees) place ≡ Some seat
+    → slice_get (seats_adopted sheet season (map new_seat asked) trees) place ≡ Some seat
     → slice_get trees place ≡ Some saved → IsNearlyDone sheet season seat.question saved
     → IsNearlyKnown sheet season seat
 seats_nearly sheet season asked [] place seat saved found own nearly =
@@ -46,8 +47,8 @@ seats_nearly sheet season asked [] place seat saved found own nearly =
 seats_nearly sheet season [] (tree ∷ trees) place seat saved found own nearly =
     absurd (none-some seat found)
 seats_nearly sheet season (question ∷ asked) (tree ∷ trees) zero seat saved found own nearly =
-    let is : seat_taken_up sheet season tree (new_seat question) ≡ seat =
-    same_Some (seat_taken_up sheet season tree (new_seat question)) seat found in
+    let is : seat_adopted_if sheet season tree (new_seat question) ≡ seat =
+    same_Some (seat_adopted_if sheet season tree (new_seat question)) seat found in
     let asks : seat.question ≡ question =
     sym (ap (λ (s : QuestionState). s.question) is)
     ∙ taken_question sheet season question tree in
@@ -66,11 +67,11 @@ pub taken_nearly_saved : (old taken : PoolView) (trees : List (Option Tree))
 taken_nearly_saved old taken trees takes fresh =
     subst (λ (pool : PoolView). AreNearlySaved pool trees) (sym takes) there
   where
-    there : AreNearlySaved (pool_taken_up old trees) trees
+    there : AreNearlySaved (pool_adopted old trees) trees
     there place seat saved found own nearly =
         seats_nearly old.sheet old.season old.questions trees place seat saved
         (ap (λ (seats : List QuestionState).
-        slice_get (seats_taken_up old.sheet old.season seats trees) place) (sym fresh) ∙ found)
+        slice_get (seats_adopted old.sheet old.season seats trees) place) (sym fresh) ∙ found)
         own nearly
 
 -- ---- work

@@ -7,10 +7,12 @@
 mod item;
 mod laws;
 mod reader;
+mod rivals;
 mod row;
 mod saving;
 mod so_far;
 mod stop;
+mod taken;
 mod taking_up;
 mod unspent_laws;
 
@@ -20,8 +22,9 @@ pub use laws::{
 };
 pub use reader::read_saved;
 pub use saving::put_saved;
-pub use so_far::{SavedSoFar, Taken};
+pub use so_far::SavedSoFar;
 pub use stop::SaveStop;
+pub use taken::Taken;
 pub use taking_up::take_up;
 pub use unspent_laws::{
     nearly_saved_questions_are_not_shown_spent, nearly_saved_questions_stay_so,

@@ -17,11 +17,12 @@ ghost use Rattle.pool_save.specs.inside.Calls.{StepLeaves, SaveStepMoves, SaveSt
 ghost use Rattle.pool_save.specs.inside.Calls.{StepGrows, StepStops, StopsAtSaved, given_as};
 ghost use Rattle.pool_save.specs.inside.Calls.{saved_answer_after};
 
-use crate::so_far::{SavedSoFar, Taken};
+use crate::so_far::SavedSoFar;
 use crate::stop::SaveStop;
+use crate::taken::Taken;
 use answer_rows::questions;
 use league_core::{OutOfMemory, Question, Sheet};
-use line_tokens::read_token;
+use line_tokens::{read_token, spent_node_in};
 use port_core::{Line, LineReader, Source};
 use std::alloc::Global;
 use tree_arena::Tree;
@@ -151,6 +152,8 @@ fn take_text(
     ensures { IfOk result (λ taken. save_step_of held.new taken
         ≡ save_taken sheet.now asked.now held.old (token_of text.now)) }
 {
-    let token = read_token(alloc, text)?;
-    held.take(alloc, sheet, asked, &token)
+    match spent_node_in(text) {
+        Some(node) => held.take_node(alloc, sheet, asked, node),
+        None => held.take(alloc, sheet, asked, &read_token(alloc, text)?),
+    }
 }

@@ -1,41 +1,28 @@
 //! A saved text as far as it is read.
 
-ghost use Rattle.std.specs.Prelude.{◌≡◌, ◌<◌, ◌≤◌, ◌++◌, ◌∷◌, [], ℕ, List, Some, All, IsTrue};
+ghost use Rattle.std.specs.Prelude.{◌≡◌, ◌<◌, ◌≤◌, ◌++◌, ◌∷◌, [], List, Some, All, IsTrue};
 ghost use Rattle.std.specs.Prelude.{IfOk, OnOk, is_some, length, drop};
 ghost use Rattle.std.specs.List.{slice_get};
 ghost use Rattle.league_core.specs.game.Sheets.{IsWithinLimits};
 ghost use Rattle.league_core.specs.game.Questions.{IsQuestionOf};
 ghost use Rattle.league_core.specs.game.ClubSets.{clubs_in};
 ghost use Rattle.league_core.specs.declared.question.Question.{Question};
-ghost use Rattle.league_core.specs.search.Zones.{is_of_rival};
 ghost use Rattle.league_core.specs.search.TreeLists.{tree_of};
 ghost use Rattle.tree_arena.specs.inside.Calls.{most_nodes};
 ghost use Rattle.pool_save.specs.SavedReadings.{nothing_saved, save_taken, row_taken};
 ghost use Rattle.pool_save.specs.SavedReadings.{item_begun, node_taken_if, question_due};
-ghost use Rattle.pool_save.specs.SavedReadings.{filled_places};
-ghost use Rattle.pool_save.specs.SavedReadings.{goes_on, leaf_taken, with_rival};
-ghost use Rattle.pool_save.specs.SavedReadings.{asks_one_of, may_split};
+ghost use Rattle.pool_save.specs.SavedReadings.{filled_places, goes_on, leaf_taken};
 ghost use Rattle.pool_save.specs.inside.SoFar.{save_step_of, IsSaveState};
 
+use crate::rivals::{may_split, with_rival};
 use crate::row::{is_end_row, is_row_of};
+use crate::taken::Taken;
 use fixture_sheet::Fields;
-use league_core::{ClubSet, OutOfMemory, Question, Sheet, Test, TreeNode};
-use line_tokens::{Token, TreeKind, is_reason_for, is_test_for, node_of};
+use league_core::{ClubSet, OutOfMemory, Question, Sheet, TreeNode};
+use line_tokens::{Token, TreeKind, is_reason_for, node_of};
 use std::alloc::Global;
 use std::marker::Model;
-use std::mem;
-use tree_arena::{Tree, TreeStop};
-
-/// What a line makes of what is read so far.
-#[derive(Clone, Copy, PartialEq, Eq, Debug)]
-pub enum Taken {
-    /// The reading goes on.
-    On,
-    /// It is over: there is a place for each question.
-    Whole,
-    /// No saved text has such a line there.
-    Bad,
-}
+use tree_arena::Tree;
 
 /// The trees that are read, one place a question, and the tree that is being read: its nodes, and
 /// for each part that must come yet, the next one last, the rivals asked on the way there.
@@ -162,8 +149,9 @@ impl SavedSoFar {
         Ok(Taken::Bad)
     }
 
-    // A node of the tree of the next question.
-    fn take_node(
+    /// Takes a node of the tree of the next question. After a bad one nothing is said of what is
+    /// read.
+    pub fn take_node(
         &mut self,
         alloc: Global,
         sheet: &Sheet,
@@ -222,11 +210,25 @@ impl SavedSoFar {
     {
         self.nodes.push(node)?;
         if self.due.is_empty() {
-            let nodes = mem::replace(&mut self.nodes, Vec::new(alloc));
-            let tree = tree_of(alloc, nodes)?;
-            self.trees.push(Some(tree))?;
+            self.end_tree(alloc)?;
         }
         Ok(Taken::On)
+    }
+
+    // The tree is read: it stands at the place of its question, and no node is left.
+    #[inline(never)]
+    fn end_tree(&mut self, alloc: Global) -> Result<(), OutOfMemory>
+        requires tree { IsTrue (is_some (tree_of self.old.nodes)) }
+        requires few { length self.old.nodes ≤ most_nodes }
+        ensures { OnOk result (self.new ≡ record self.old {
+          trees = self.old.trees ++ tree_of self.old.nodes ∷ [];
+          nodes = [];
+        }) }
+    {
+        let tree = tree_of(alloc, self.nodes.as_slice())?;
+        self.nodes.clear();
+        self.trees.push(Some(tree))?;
+        Ok(())
     }
 }
 
@@ -238,44 +240,10 @@ fn question_at(asked: &[Question], place: usize) -> Question
 }
 
 // The tree of these nodes.
-fn tree_of(alloc: Global, nodes: Vec<TreeNode>) -> Result<Tree, OutOfMemory>
-    requires some { IsTrue (is_some (tree_of nodes.items)) }
-    requires few { length nodes.items ≤ most_nodes }
-    ensures { IfOk result (λ tree. tree_of nodes.items ≡ Some tree) }
+fn tree_of(alloc: Global, nodes: &[TreeNode]) -> Result<Tree, OutOfMemory>
+    requires some { IsTrue (is_some (tree_of nodes.now)) }
+    requires few { length nodes.now ≤ most_nodes }
+    ensures { IfOk result (λ tree. tree_of nodes.now ≡ Some tree) }
 {
-    match Tree::of_nodes(alloc, nodes) {
-        Ok(tree) => Ok(tree),
-        Err(TreeStop::OutOfMemory) => Err(OutOfMemory),
-        Err(TreeStop::NoTree(_)) => unreachable!(),
-    }
-}
-
-// A split by the test may come where these rivals were asked.
-fn may_split(sheet: &Sheet, question: &Question, rivals: ClubSet, test: Test) -> bool
-    ensures { result ≡ may_split sheet.now question.now (clubs_in rivals) test }
-{
-    is_test_for(sheet, question, test) && !asks_one_of(rivals, test)
-}
-
-fn asks_one_of(rivals: ClubSet, test: Test) -> bool
-    ensures { result ≡ asks_one_of (clubs_in rivals) test }
-{
-    match test {
-        Test::Rival { club } => rivals.has(club),
-        _ => false,
-    }
-}
-
-// The rivals with that of the test.
-fn with_rival(rivals: ClubSet, test: Test) -> ClubSet
-    requires small { (club : ℕ) → IsTrue (is_of_rival club test) → club < 32 }
-    ensures { clubs_in result ≡ with_rival (clubs_in rivals) test }
-{
-    match test {
-        Test::Rival { club } => rivals.with_if(true, club),
-        Test::Home { .. } => rivals,
-        Test::Draw { .. } => rivals,
-        Test::HomeMost { .. } => rivals,
-        Test::AwayMost { .. } => rivals,
-    }
+    Tree::of_preorder(alloc, nodes)
 }

@@ -1,6 +1,6 @@
 -- The reader after the wait for the line that is due: bytes came in hand, and nothing else changed.
-use Rattle.std.proofs.Common.{◌≡◌, ℕ, ◌+◌, ◌-◌, ◌≤◌, List, length, Option, refl, ap, subst}
-use Rattle.std.proofs.Common.{arith, length-append}
+use Rattle.std.proofs.Common.{◌≡◌, ℕ, ◌+◌, ◌-◌, ◌≤◌, List, length, Option, refl, ap, sym}
+use Rattle.std.proofs.Common.{subst, arith, length-append}
 use Rattle.std.specs.Io.KnownBytes.{prepend_known}
 use Rattle.port_core.specs.declared.buffer.Due.{Due}
 use Rattle.port_core.specs.Contents.{Position}
@@ -55,24 +55,26 @@ awaited-by left reads held held' text position most before after due inside room
     }
 
 pub awaited : {S : Type 0} (left : S → Option (List ℕ)) (reads : S → List ℕ → S → Type 0)
-    (held held' text : List ℕ) (position : Position) (entry : LineReaderView) (most : ℕ)
+    (held held' text text' : List ℕ) (position : Position) (entry : LineReaderView) (most : ℕ)
     (before after : S)
     (due : Due) → record { held = held; text = text; position = position } ≡ entry
     → position.bytes ≤ 67108864 → length entry.held ≤ most → most ≡ most_held entry
     → prepend_known held (left before) ≡ prepend_known held' (left after)
-    → IsDue most held' (left after) due → (length held ≤ most → length held' ≤ most)
+    → IsDue most held' (left after) due → text' ≡ text → (length held ≤ most → length held' ≤ most)
     → Takes held held' (left before) (left after)
     → StopsReading left reads most held held' before after due
     → (IsReady held → (after ≡ before) × (held' ≡ held))
     → (most ≤ length held → (after ≡ before) × (held' ≡ held))
-    → IsAwaited left reads entry (record { held = held'; text = text; position = position }) before
+    → IsAwaited left reads entry (record { held = held'; text = text'; position = position }) before
     after due
-awaited left reads held held' text position entry most before after due is inside room most-is
-    stream end within takes last ready full =
-    let new : LineReaderView = record { held = held'; text = text; position = position } in
+awaited left reads held held' text text' position entry most before after due is inside room most-is
+    stream end kept within takes last ready full =
     let M : LineReaderView → Type 0 = λ e. length e.held ≤ most → most ≡ most_held e
-    → IsAwaited left reads e new before after due in
+    → IsAwaited left reads e (record { held = held'; text = text; position = position }) before
+    after due in
     let here : M (record { held = held; text = text; position = position }) = λ room most-is.
     awaited-by left reads held held' text position most before after due inside room stream end
     within takes last ready full most-is in
-    subst M is here room most-is
+    let N : List ℕ → Type 0 = λ t. IsAwaited left reads entry
+    (record { held = held'; text = t; position = position }) before after due in
+    subst N (sym kept) (subst M is here room most-is)

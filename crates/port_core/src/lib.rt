@@ -10,7 +10,6 @@
 mod buffer;
 mod bytes;
 mod content;
-mod last_line;
 mod laws;
 mod line;
 mod line_reader;

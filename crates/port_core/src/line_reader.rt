@@ -4,22 +4,20 @@
 //!     source  ── read ──>  bytes in hand  ── line by line ──>  content last given
 //!
 //! The reader reads only while no answer is in hand, so it never waits for more input than its
-//! line. A fault loses nothing: what was read stays in hand. A line costs a look at each of its
-//! bytes, and a copy of its content if it is given.
+//! line. A fault loses nothing: what was read stays in hand. A line costs a look at its bytes; its
+//! content is not copied, but stays where it was read until the next read.
 
 ghost use Rattle.std.specs.Prelude.{◌≡◌, ◌+◌, ◌-◌, ◌<◌, ◌≤◌, [], IfOk, Ok, length, option_map};
-ghost use Rattle.std.specs.Prelude.{take};
 ghost use Rattle.port_core.specs.Contents.{input_limit, number_at, start};
 ghost use Rattle.port_core.specs.Readers.{HasAnswer, TakesInput, bytes_taken, contents_to_come};
 ghost use Rattle.port_core.specs.inside.ReaderCalls.{CountsNext, EndsInput, EndsLine, EndsWait};
-ghost use Rattle.port_core.specs.inside.ReaderCalls.{IsWithin, KeepsContent, KeepsText, NextGives};
+ghost use Rattle.port_core.specs.inside.ReaderCalls.{IsWithin, KeepsText, NextGives};
 ghost use Rattle.port_core.specs.inside.ReaderCalls.{LeavesReader, LineKeepsText, MovesOn};
 ghost use Rattle.port_core.specs.inside.ReaderCalls.{PassesLine, PassesTo, StaysStopped};
 ghost use Rattle.port_core.specs.inside.ReaderCalls.{StopsAtAnswer, given_by, most_held};
 
 use crate::buffer::{Buffer, Due, await_line};
 use crate::content::{content_of, is_skipped};
-use crate::last_line::LastLine;
 use crate::line::{INPUT_LIMIT, LINE_LIMIT, Line, ReadStop};
 use crate::ports::Source;
 use league_core::OutOfMemory;
@@ -30,8 +28,7 @@ use std::marker::Model;
 /// once, at the start.
 #[derive(Drop)]
 pub struct LineReader {
-    held: Buffer,
-    text: LastLine,
+    buffer: Buffer,
     // The lines and the bytes that were passed.
     lines: u64,
     bytes: usize,
@@ -45,13 +42,13 @@ impl Model for LineReader {
     ghost Value = { LineReaderView };
 
     ghost view = { λ reader. record {
-      held = reader.held;
-      text = reader.text;
+      held = reader.buffer.held;
+      text = reader.buffer.text;
       position = record { lines = reader.lines; bytes = reader.bytes };
     } };
 
     ghost invariant = { λ reader. (reader.lines ≤ reader.bytes) × (reader.bytes ≤ input_limit)
-        × (reader.bytes + length reader.held ≤ input_limit + 1) };
+        × (reader.bytes + length reader.buffer.held ≤ input_limit + 1) };
 }
 
 impl LineReader {
@@ -61,8 +58,7 @@ impl LineReader {
             reader ≡ record { held = []; text = []; position = start }) }
     {
         Ok(LineReader {
-            held: Buffer::new(alloc)?,
-            text: LastLine::new(alloc)?,
+            buffer: Buffer::new(alloc)?,
             lines: 0,
             bytes: 0,
         })
@@ -72,7 +68,7 @@ impl LineReader {
     pub fn text(&self) -> &[u8]
         ensures { result.now ≡ self.now.text }
     {
-        self.text.bytes()
+        self.buffer.text()
     }
 
     /// The number of the line passed last, given or not; 0 before the first. The line that is due,
@@ -110,7 +106,7 @@ impl LineReader {
     {
         'lines: loop {
             let most = self.most();
-            let due = await_line(&mut self.held, most, source);
+            let due = await_line(&mut self.buffer, most, source);
             if let Some(result) = self.end_wait(due) {
                 return result;
             }
@@ -118,6 +114,7 @@ impl LineReader {
     }
 
     // What comes of the line that is due, after the wait for it.
+    #[inline(always)]
     fn end_wait(&mut self, due: Due) -> Option<Result<Line, ReadStop>>
         requires { IsWithin self.old due }
         ensures answer { EndsWait self.old self.new due result }
@@ -168,7 +165,7 @@ impl LineReader {
         requires room { bytes_taken self.old ≤ INPUT_LIMIT }
         ensures { EndsInput self.old self.new result }
     {
-        let count = self.held.bytes().len();
+        let count = self.buffer.bytes().len();
         if count == 0 {
             let number = self.lines + 1;
             return Some(Ok(Line::End { number }));
@@ -185,30 +182,18 @@ impl LineReader {
         requires room { self.old.position.bytes + after ≤ INPUT_LIMIT }
         ensures { PassesLine self.old self.new end after result }
     {
-        let given = self.keep(end);
-        self.held.drop_prefix(after);
+        let text = &self.buffer.bytes()[..end];
+        let (from, to) = content_of(text, self.lines == 0);
+        let skipped = is_skipped(&text[from..to]);
         self.lines += 1;
         self.bytes += after;
-        if given {
-            let number = self.lines;
-            Some(Line::Text { number })
-        } else {
-            None
+        if skipped {
+            self.buffer.drop_prefix(after);
+            return None;
         }
-    }
-
-    // Keeps the content of the first line in hand, whose text ends at `end`, if it is given.
-    fn keep(&mut self, end: usize) -> bool
-        requires limit { end ≤ LINE_LIMIT }
-        requires within { end ≤ length self.old.held }
-        ensures { KeepsContent self.old self.new (take end self.old.held) result }
-    {
-        let content = content_of(&self.held.bytes()[..end], self.lines == 0);
-        if is_skipped(content) {
-            return false;
-        }
-        self.text.keep(content);
-        true
+        self.buffer.give_prefix(from, to, after);
+        let number = self.lines;
+        Some(Line::Text { number })
     }
 }
 

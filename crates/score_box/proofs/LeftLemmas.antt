@@ -122,10 +122,10 @@ left_among cell options left is are = record {
   away_win = passing_among cell options is_away_win left.away_win is are.away_win;
 }
 
--- two cells with the same scores have the same outcomes left
-same_passing : (cell other : Cell) (test : Score → Bool) (has : Bool)
-    → ((score : Score) → allows cell score ≡ allows other score) → HasPassing cell test has
-    → HasPassing other test has
+-- a cell has a score that passes if another one with the same such scores has
+pub same_passing : (cell other : Cell) (test : Score → Bool) (has : Bool)
+    → ((score : Score) → test score ≡ true → allows cell score ≡ allows other score)
+    → HasPassing cell test has → HasPassing other test has
 same_passing cell other test has same left = record {
   goals = left.goals;
   says = moved left.goals left.says;
@@ -133,10 +133,13 @@ same_passing cell other test has same left = record {
 }
   where
     there : (score : Score) → IsAllowed cell test score → IsAllowed other test score
-    there score one = record { allowed = sym (same score) ∙ one.allowed; passed = one.passed }
+    there score one = record {
+      allowed = sym (same score one.passed) ∙ one.allowed;
+      passed = one.passed;
+    }
 
     back : (score : Score) → IsAllowed other test score → IsAllowed cell test score
-    back score one = record { allowed = same score ∙ one.allowed; passed = one.passed }
+    back score one = record { allowed = same score one.passed ∙ one.allowed; passed = one.passed }
 
     moved : (goals : Option ScoreRange) → Says cell test goals → Says other test goals
     moved None none = λ score one. none score (back score one)
@@ -156,13 +159,16 @@ same_passing cell other test has same left = record {
       away_most = (range.away_most.0, there range.away_most.0 range.away_most.1, range.away_most.2);
     }
 
+-- so two cells with the same scores have the same outcomes left
 pub same_left : (cell other : Cell) (left : OutcomesLeft)
     → ((score : Score) → allows cell score ≡ allows other score) → AreOutcomesLeft cell left
     → AreOutcomesLeft other left
 same_left cell other left same are = record {
-  home_win = same_passing cell other is_home_win left.home_win same are.home_win;
-  draw = same_passing cell other is_draw left.draw same are.draw;
-  away_win = same_passing cell other is_away_win left.away_win same are.away_win;
+  home_win = same_passing cell other is_home_win left.home_win (λ score passed. same score)
+      are.home_win;
+  draw = same_passing cell other is_draw left.draw (λ score passed. same score) are.draw;
+  away_win = same_passing cell other is_away_win left.away_win (λ score passed. same score)
+      are.away_win;
 }
 
 -- a cell with those outcomes alone that it has a score of

@@ -6,7 +6,11 @@ pub mod TrailLemmas
 pub mod PathLemmas
 pub mod PointLemmas
 pub mod LeftLemmas
+pub mod ExactLemmas
+pub mod SideLemmas
 pub mod EndLemmas
 pub mod TotalLemmas
 pub mod SplitLemmas
+pub mod OpenSideLemmas
 pub mod SetLemmas
+pub mod BeyondLemmas

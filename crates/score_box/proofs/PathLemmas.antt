@@ -69,11 +69,12 @@ zone_without sheet zone literal all =
 
 -- a box with one literal more
 pub box_with : (sheet : Sheet) (season : Results) (zone : List Literal) (literal : Literal)
-    (trail : List Undo) (undo : Undo) (unplayed : List ℕ) (old new : List Cell)
+    (trail : List Undo) (undo : Undo) (unplayed : List ℕ) (sides : List ClubSet)
+    (old new : List Cell)
     (before after before_new after_new : ClubSet) (ends ends_new : Ends)
     (clubs pairs : List Totals)
-    → IsBoxOf (record { sheet = sheet; season = season; zone = zone }) trail unplayed old before
-    after ends clubs pairs → is_test_of sheet literal.test ≡ true
+    → IsBoxOf (record { sheet = sheet; season = season; zone = zone }) trail unplayed sides old
+    before after ends clubs pairs → is_test_of sheet literal.test ≡ true
     → IsUndoOf sheet.goal_limit season.scores zone literal undo
     → AreCellsOf new (options_in sheet season (zone ++ literal ∷ []))
     → AreEnds sheet.fixtures (options_in sheet season (zone ++ literal ∷ [])) ends_new
@@ -82,11 +83,13 @@ pub box_with : (sheet : Sheet) (season : Results) (zone : List Literal) (literal
     → IsSetOf after_new (λ club. has_club (clubs_in after) club
     || (is_of_rival club literal.test && not literal.yes))
     → IsBoxOf (record { sheet = sheet; season = season; zone = zone ++ literal ∷ [] })
-    (trail ++ undo ∷ []) unplayed new before_new after_new ends_new clubs pairs
-box_with sheet season zone literal trail undo unplayed old new before after before_new after_new
-    ends ends_new clubs pairs is here stood cells ends_are marks_before marks_after = record {
+    (trail ++ undo ∷ []) unplayed sides new before_new after_new ends_new clubs pairs
+box_with sheet season zone literal trail undo unplayed sides old new before after before_new
+    after_new ends ends_new clubs pairs is here stood cells ends_are marks_before marks_after =
+    record {
       league = is.league;
       open_fixtures = is.open_fixtures;
+      open_sides = is.open_sides;
       of_zone = zone_with sheet zone literal is.of_zone here;
       trail_is = trail_more sheet.goal_limit season.scores zone trail literal undo is.trail_is
           stood;
@@ -105,20 +108,22 @@ box_with sheet season zone literal trail undo unplayed old new before after befo
 
 -- and without its last
 pub box_without : (sheet : Sheet) (season : Results) (zone : List Literal) (last : Literal)
-    (trail : List Undo) (undo : Undo) (unplayed : List ℕ) (old new : List Cell)
+    (trail : List Undo) (undo : Undo) (unplayed : List ℕ) (sides : List ClubSet)
+    (old new : List Cell)
     (before after : ClubSet) (ends ends_new : Ends) (clubs pairs : List Totals)
     → IsBoxOf (record { sheet = sheet; season = season; zone = zone ++ last ∷ [] })
-    (trail ++ undo ∷ []) unplayed old before after ends clubs pairs
+    (trail ++ undo ∷ []) unplayed sides old before after ends clubs pairs
     → AreCellsOf new (options_in sheet season zone)
     → AreEnds sheet.fixtures (options_in sheet season zone) ends_new
-    → IsBoxOf (record { sheet = sheet; season = season; zone = zone }) trail unplayed new
+    → IsBoxOf (record { sheet = sheet; season = season; zone = zone }) trail unplayed sides new
     undo.marks.before undo.marks.after ends_new clubs pairs
-box_without sheet season zone last trail undo unplayed old new before after ends ends_new clubs
-    pairs is cells ends_are =
+box_without sheet season zone last trail undo unplayed sides old new before after ends ends_new
+    clubs pairs is cells ends_are =
     let less = trail_less sheet.goal_limit season.scores zone trail last undo is.trail_is in
     record {
       league = is.league;
       open_fixtures = is.open_fixtures;
+      open_sides = is.open_sides;
       of_zone = (zone_without sheet zone last is.of_zone).0;
       trail_is = less.0;
       options = cells;

@@ -2,8 +2,9 @@
 -- leaves.
 pub mod ZoneBoxViews
 pub mod Cells
-pub mod Unplayed
 pub mod Boxes
+pub mod OpenSides
+pub mod Unplayed
 pub mod Ends
 pub mod Totals
 pub mod PlayedViews

@@ -1,11 +1,12 @@
 //! The scores that are still open for one fixture. Each call takes a fixed number of steps.
 
-ghost use Rattle.std.specs.Prelude.{◌≡◌, ◌&&◌, nat_le, IsTrue, ◌↔◌};
+ghost use Rattle.std.specs.Prelude.{◌≡◌, ◌&&◌, nat_le, IsTrue, ◌↔◌, true, false, if◌then◌else◌};
 ghost use Rattle.league_core.specs.declared.season.Score.{Score};
 ghost use Rattle.league_core.specs.game.Finishes.{same_score};
 ghost use Rattle.league_core.specs.search.Zones.{passes, is_as_said, is_of_score};
 ghost use Rattle.league_core.specs.search.Options.{is_home_win, is_draw};
 ghost use Rattle.score_box.specs.inside.Cells.{allows, is_within, keeps_outcome, IsEmptyCell};
+ghost use Rattle.score_box.specs.inside.Cells.{with_outcomes};
 
 mod exact;
 mod goals;
@@ -104,8 +105,10 @@ impl Cell {
     }
 
     fn cut_home_win(&mut self, yes: bool)
-        ensures { (score : Score) → allows self.new score
+        ensures scores { (score : Score) → allows self.new score
             ≡ (allows self.old score && is_as_said yes (is_home_win score)) }
+        ensures outcomes { self.new ≡ (if yes then with_outcomes true false false self.old
+            else with_outcomes false true true self.old) }
     {
         if yes {
             self.draw = false;
@@ -116,8 +119,10 @@ impl Cell {
     }
 
     fn cut_draw(&mut self, yes: bool)
-        ensures { (score : Score) → allows self.new score
+        ensures scores { (score : Score) → allows self.new score
             ≡ (allows self.old score && is_as_said yes (is_draw score)) }
+        ensures outcomes { self.new ≡ (if yes then with_outcomes false true false self.old
+            else with_outcomes true false true self.old) }
     {
         if yes {
             self.home_win = false;

@@ -14,16 +14,15 @@ ghost use Rattle.league_core.specs.game.Seasons.{IsLeague};
 ghost use Rattle.league_core.specs.game.Sheets.{IsWithinLimits};
 ghost use Rattle.score_box.specs.declared.cell.Cell.{Cell};
 ghost use Rattle.score_box.specs.inside.Cells.{IsCellOf, IsExactCell};
-ghost use Rattle.score_box.specs.inside.Points.{AreOutcomesLeft};
 ghost use Rattle.score_box.specs.inside.Boxes.{AreCellsOf, HasOptions, open_outcomes_in};
 ghost use Rattle.score_box.specs.inside.Ends.{AreEnds, HasEndsOfCells, HasEndsAt, IsMatch};
 ghost use Rattle.score_box.specs.inside.Ends.{MovesRanges, end_at};
-ghost use Rattle.score_box.specs.inside.Points.{left_to};
+ghost use Rattle.score_box.specs.inside.Points.{AreWorth, left_to};
 ghost use Rattle.score_box.specs.inside.Totals.{AreTables, AreTotalsNear, totals_at};
 ghost use Rattle.score_box.specs.inside.Unplayed.{unplayed_in};
 
 use crate::cell::Cell;
-use crate::points::OutcomesLeft;
+use crate::points::{OutcomesLeft, Worth};
 use crate::tables::Tables;
 use league_core::{Fixture, Sheet};
 
@@ -117,11 +116,11 @@ fn add_left(
         +ℤ total_of (λ k. (left_to (club ∷ []) fixtures.now options k).greatest) numbers.now) }
 {
     let empty = Cell::none();
-    let none = OutcomesLeft::of(&empty);
+    let none = OutcomesLeft::of(&empty).worth();
     for i in 0..numbers.len() {
         let number = numbers[i] as usize;
         let left = cells[number].left();
-        move_ranges(lows, highs, fixtures[number], none, left);
+        move_ranges(lows, highs, fixtures[number], none, left.worth());
     }
 }
 
@@ -135,6 +134,12 @@ fn several_outcomes(cells: &[Cell]) -> usize
         count += one_if(!cell.left().are_one());
     }
     count
+}
+
+fn one_if(counts: bool) -> usize
+    ensures { result ≡ (if counts then 1 else 0) }
+{
+    if counts { 1 } else { 0 }
 }
 
 /// Puts a cell in the place of another, and moves the ends on.
@@ -168,8 +173,8 @@ fn move_ends(ends: &mut Ends, fixtures: &[Fixture], number: u16, was: &Cell, now
         → IsCellOf was.now (slice_index_or options number []) → IsCellOf now.now after
         → AreEnds fixtures.now (slice_set options number after) ends.new }
 {
-    let before = was.left();
-    let after = now.left();
+    let before = was.left().worth();
+    let after = now.left().worth();
     move_ranges(
         &mut ends.lows,
         &mut ends.highs,
@@ -177,33 +182,21 @@ fn move_ends(ends: &mut Ends, fixtures: &[Fixture], number: u16, was: &Cell, now
         before,
         after,
     );
-    ends.empty = moved_count(ends.empty, before.are_none(), after.are_none());
-    ends.several = moved_count(ends.several, !before.are_one(), !after.are_one());
+    ends.empty = moved_count(ends.empty, before.empty, after.empty);
+    ends.several = moved_count(ends.several, before.several, after.several);
 }
 
-// A count with one thing more or less, by whether it counted and whether it counts now.
-fn moved_count(count: usize, was: bool, now: bool) -> usize
+// A count to which one number is added in place of another.
+fn moved_count(count: usize, was: u16, now: u16) -> usize
     requires few { count ≤ most_fixtures }
-    requires counted { (if was then 1 else 0) ≤ count }
-    ensures { result + (if was then 1 else 0) ≡ count + (if now then 1 else 0) }
+    requires counted { was ≤ count }
+    ensures { result + was ≡ count + now }
 {
-    count + one_if(now) - one_if(was)
+    count + usize::from(now) - usize::from(was)
 }
 
-fn one_if(counts: bool) -> usize
-    ensures { result ≡ (if counts then 1 else 0) }
-{
-    if counts { 1 } else { 0 }
-}
-
-// Moves the numbers of a match's two clubs, when its cell had some outcomes and has others now.
-fn move_ranges(
-    lows: &mut [i32],
-    highs: &mut [i32],
-    fixture: Fixture,
-    before: OutcomesLeft,
-    after: OutcomesLeft,
-)
+// Moves the numbers of a match's two clubs, from what its cell left them to what it leaves now.
+fn move_ranges(lows: &mut [i32], highs: &mut [i32], fixture: Fixture, before: Worth, after: Worth)
     requires fixture { IsMatch fixture }
     requires lows { length lows.old ≡ 24 }
     requires highs { length highs.old ≡ 24 }
@@ -211,17 +204,13 @@ fn move_ranges(
         × (end_at lows.old club ≤ℤ pos 200000) }
     requires high { (club : ℕ) → ((pos 0 -ℤ pos 200000) ≤ℤ end_at highs.old club)
         × (end_at highs.old club ≤ℤ pos 200000) }
-    ensures { (was now : Cell) → AreOutcomesLeft was before → AreOutcomesLeft now after
+    ensures { (was now : Cell) → AreWorth was before → AreWorth now after
         → MovesRanges fixture was now lows.old lows.new highs.old highs.new }
 {
-    let home_was = before.points(true, false);
-    let away_was = before.points(false, true);
-    let home_now = after.points(true, false);
-    let away_now = after.points(false, true);
-    move_one(lows, fixture.home, home_was.least, home_now.least);
-    move_one(lows, fixture.away, away_was.least, away_now.least);
-    move_one(highs, fixture.home, home_was.most, home_now.most);
-    move_one(highs, fixture.away, away_was.most, away_now.most);
+    move_one(lows, fixture.home, before.home.least, after.home.least);
+    move_one(lows, fixture.away, before.away.least, after.away.least);
+    move_one(highs, fixture.home, before.home.most, after.home.most);
+    move_one(highs, fixture.away, before.away.most, after.away.most);
 }
 
 fn move_one(numbers: &mut [i32], club: u8, was: u8, now: u8)

@@ -10,6 +10,7 @@
 mod cell;
 mod ends;
 mod marks;
+mod open_matches;
 mod own;
 mod played;
 mod points;

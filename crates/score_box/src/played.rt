@@ -1,8 +1,6 @@
 //! What was played in a season, worked out once for many boxes.
 
-ghost use Rattle.std.specs.Prelude.{◌≡◌, ◌<◌, ◌≤◌, ◌++◌, ◌↔◌, IsTrue, IfOk, [], ◌∷◌, length};
-ghost use Rattle.std.specs.Prelude.{if◌then◌else◌};
-ghost use Rattle.league_core.specs.game.Limits.{most_fixtures};
+ghost use Rattle.std.specs.Prelude.{◌≡◌, ◌<◌, IfOk, [], length};
 ghost use Rattle.league_core.specs.search.Options.{options_in};
 ghost use Rattle.league_core.specs.game.Sums.{sum_of, points_of};
 ghost use Rattle.league_core.specs.game.Seasons.{IsLeague, IsSeasonOf};
@@ -10,14 +8,16 @@ ghost use Rattle.league_core.specs.game.Sheets.{IsWithinLimits};
 ghost use Rattle.score_box.specs.inside.Boxes.{AreCellsOf};
 ghost use Rattle.score_box.specs.inside.Ends.{AreEnds};
 ghost use Rattle.score_box.specs.inside.Totals.{AreTables, AreTotals, AreTotalsNear};
-ghost use Rattle.score_box.specs.inside.Unplayed.{is_unplayed, unplayed_in};
+ghost use Rattle.score_box.specs.inside.OpenSides.{AreSidesOf};
+ghost use Rattle.score_box.specs.inside.Unplayed.{unplayed_in};
 
 use crate::cell::Cell;
 use crate::ends::Ends;
+use crate::open_matches::OpenMatches;
 use crate::tables::Tables;
 use crate::totals::Totals;
 use crate::zone_box::season_cells;
-use league_core::{OutOfMemory, Score, Season, Sheet};
+use league_core::{OutOfMemory, Season, Sheet};
 use std::alloc::Global;
 use std::marker::Model;
 
@@ -27,7 +27,7 @@ pub struct Played<'a> {
     sheet: &'a Sheet,
     season: &'a Season,
     cells: Vec<Cell>,
-    unplayed: Vec<u16>,
+    open_matches: OpenMatches,
     ends: Ends,
     tables: Tables,
 }
@@ -42,7 +42,8 @@ impl<'a> Model for Played<'a> {
     ghost view = { λ p. record { sheet = p.sheet.now; season = p.season.now } };
 
     ghost invariant = { λ p. ArePlayed (record { sheet = p.sheet.now; season = p.season.now })
-        p.cells.items p.unplayed.items p.ends p.tables.clubs.items p.tables.pairs.items };
+        p.cells.items p.open_matches.numbers.items p.open_matches.sides.items p.ends
+        p.tables.clubs.items p.tables.pairs.items };
 }
 
 impl<'a> Played<'a> {
@@ -56,14 +57,15 @@ impl<'a> Played<'a> {
         ensures { IfOk result (λ p. p ≡ record { sheet = sheet.now; season = season.now }) }
     {
         let cells = season_cells(alloc, season.scores(), sheet.goal_limit)?;
-        let unplayed = unplayed_fixtures(alloc, season.scores())?;
-        let tables = Tables::of(alloc, sheet.fixtures.as_slice(), season.scores())?;
-        let ends = Ends::of(sheet, &cells, &unplayed, &tables);
+        let fixtures = sheet.fixtures.as_slice();
+        let open_matches = OpenMatches::of(alloc, fixtures, season.scores())?;
+        let tables = Tables::of(alloc, fixtures, season.scores())?;
+        let ends = Ends::of(sheet, &cells, &open_matches.numbers, &tables);
         Ok(Played {
             sheet,
             season,
             cells,
-            unplayed,
+            open_matches,
             ends,
             tables,
         })
@@ -89,7 +91,16 @@ impl<'a> Played<'a> {
     pub fn unplayed(&self) -> &[u16]
         ensures { result.now ≡ unplayed_in self.now.season.scores }
     {
-        self.unplayed.as_slice()
+        self.open_matches.numbers.as_slice()
+    }
+
+    /// The matches that are not played.
+    pub(crate) fn open_matches(&self) -> &OpenMatches
+        ensures numbers { result.now.numbers.items ≡ unplayed_in self.now.season.scores }
+        ensures sides { AreSidesOf self.now.sheet.fixtures result.now.numbers.items
+            result.now.sides.items }
+    {
+        &self.open_matches
     }
 
     /// The cells of the zone without a literal.
@@ -133,32 +144,4 @@ impl<'a> Played<'a> {
     {
         self.ends
     }
-}
-
-// The fixtures without a score, in order.
-fn unplayed_fixtures(alloc: Global, scores: &[Option<Score>]) -> Result<Vec<u16>, OutOfMemory>
-    requires { length scores.now ≤ most_fixtures }
-    ensures { IfOk result (λ found. found.items ≡ unplayed_in scores.now) }
-{
-    let mut found = Vec::new(alloc);
-    for fixture in 0..scores.len() {
-        push_if(&mut found, is_unplayed(scores[fixture]), fixture as u16)?;
-    }
-    Ok(found)
-}
-
-fn is_unplayed(played: Option<Score>) -> bool
-    ensures { result ≡ is_unplayed played }
-{
-    played.is_none()
-}
-
-fn push_if(found: &mut Vec<u16>, keep: bool, fixture: u16) -> Result<(), OutOfMemory>
-    ensures { IfOk result (λ _. found.new.items
-        ≡ found.old.items ++ (if keep then fixture ∷ [] else [])) }
-{
-    if keep {
-        found.push(fixture)?;
-    }
-    Ok(())
 }

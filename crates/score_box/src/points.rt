@@ -1,23 +1,30 @@
-//! The least and the most points of a set of clubs in a box: each fixture takes the outcome that
-//! gives the set least, or most. One walk over the fixtures that are left gives both.
+//! The least and the most points of a set of clubs in a box: what each of its clubs has alone, and
+//! beyond that what the open matches between two of them add. Each match takes the outcome that
+//! gives the set least, or most.
 
-ghost use Rattle.std.specs.Prelude.{◌≡◌, ◌≢◌, ◌<◌, ◌≤◌, pos, neg_ℤ, ◌+ℤ◌, ◌≤ℤ◌, ◌<ℤ◌};
+ghost use Rattle.std.specs.Prelude.{◌≡◌, ◌<◌, ◌≤◌, ℕ, pos, neg_ℤ, ◌+ℤ◌, ◌-ℤ◌, ◌≤ℤ◌, List};
 ghost use Rattle.std.specs.Prelude.{length, slice_index};
-ghost use Rattle.std.specs.Prelude.{if◌then◌else◌};
 ghost use Rattle.std.specs.List.{All};
-ghost use Rattle.league_core.specs.game.Limits.{most_fixtures, most_points, set_width};
+ghost use Rattle.league_core.specs.declared.sheet.Fixture.{Fixture};
 ghost use Rattle.league_core.specs.game.ClubSets.{clubs_in};
+ghost use Rattle.league_core.specs.game.Limits.{most_fixtures};
 ghost use Rattle.league_core.specs.search.PointRanges.{total_of};
 ghost use Rattle.score_box.specs.inside.Boxes.{HasOptions};
-ghost use Rattle.score_box.specs.inside.Points.{IsRangeOver, most_taken_off};
+ghost use Rattle.score_box.specs.inside.Ends.{end_at};
+ghost use Rattle.score_box.specs.inside.OpenSides.{AreSidesOf};
+ghost use Rattle.score_box.specs.inside.Points.{IsBeyondOver};
 
 mod left;
 mod outcomes;
+mod worth;
 
 use crate::cell::Cell;
-use league_core::{ClubSet, Fixture};
+use crate::ends::Ends;
+use crate::open_matches::OpenMatches;
+use league_core::ClubSet;
 pub use left::OutcomesLeft;
 pub use outcomes::MatchPoints;
+pub(crate) use worth::Worth;
 
 /// The least and the most points that a set of clubs can have together.
 #[derive(Clone, Copy, Debug, PartialEq, Eq)]
@@ -27,78 +34,105 @@ pub struct PointRange {
 }
 
 impl PointRange {
-    // Both ends with those of one fixture more.
-    fn with(self, points: MatchPoints) -> PointRange
-        requires least { (pos 0 ≤ℤ self.least) × (self.least <ℤ pos 1000000) }
-        requires most { (pos 0 ≤ℤ self.most) × (self.most <ℤ pos 1000000) }
-        ensures least { result.least ≡ self.least +ℤ pos points.least }
-        ensures most { result.most ≡ self.most +ℤ pos points.most }
+    /// Both ends of two ranges together.
+    pub(crate) fn with(self, other: PointRange) -> PointRange
+        requires least { (neg_ℤ (pos 1000000) ≤ℤ self.least) × (self.least ≤ℤ pos 1000000) }
+        requires most { (neg_ℤ (pos 1000000) ≤ℤ self.most) × (self.most ≤ℤ pos 1000000) }
+        requires other_least { (neg_ℤ (pos 1000000) ≤ℤ other.least)
+            × (other.least ≤ℤ pos 1000000) }
+        requires other_most { (neg_ℤ (pos 1000000) ≤ℤ other.most) × (other.most ≤ℤ pos 1000000) }
+        ensures least { result.least ≡ self.least +ℤ other.least }
+        ensures most { result.most ≡ self.most +ℤ other.most }
     {
         PointRange {
-            least: self.least + i32::from(points.least),
-            most: self.most + i32::from(points.most),
-        }
-    }
-
-    /// Both ends, with what is the same in both.
-    pub(crate) fn moved(self, by: i32) -> PointRange
-        requires least { (pos 0 ≤ℤ self.least) × (self.least <ℤ pos 1000000) }
-        requires most { (pos 0 ≤ℤ self.most) × (self.most <ℤ pos 1000000) }
-        requires by { (neg_ℤ (pos 100000000) ≤ℤ by) × (by ≤ℤ pos 100000000) }
-        ensures least { result.least ≡ by +ℤ self.least }
-        ensures most { result.most ≡ by +ℤ self.most }
-    {
-        PointRange {
-            least: self.least + by,
-            most: self.most + by,
+            least: self.least + other.least,
+            most: self.most + other.most,
         }
     }
 }
 
-/// The match points that the fixtures of these numbers leave a set of clubs, each with its cell.
-pub fn points_left(
-    fixtures: &[Fixture],
-    cells: &[Cell],
-    numbers: &[u16],
-    set: ClubSet,
-) -> PointRange
-    requires many { length fixtures.now ≡ length cells.now }
-    requires in_range { All (λ number. number < length fixtures.now) numbers.now }
-    requires few { length numbers.now ≤ most_fixtures }
-    requires apart { All (λ match. match.home ≢ match.away) fixtures.now }
+/// What the clubs of a set have alone, added, less what is taken off each.
+#[inline(always)]
+pub fn alone(ends: &Ends, deductions: &[u8], set: ClubSet) -> PointRange
+    requires low { (club : ℕ) → (pos 0 ≤ℤ end_at ends.now.lows club)
+        × (end_at ends.now.lows club ≤ℤ pos 1800) }
+    requires high { (club : ℕ) → (pos 0 ≤ℤ end_at ends.now.highs club)
+        × (end_at ends.now.highs club ≤ℤ pos 1800) }
+    ensures least { result.least ≡ total_of
+        (λ club. end_at ends.now.lows club -ℤ pos (slice_index deductions.now club))
+        (clubs_in set) }
+    ensures most { result.most ≡ total_of
+        (λ club. end_at ends.now.highs club -ℤ pos (slice_index deductions.now club))
+        (clubs_in set) }
+    ensures near_least { (neg_ℤ (pos 57600) ≤ℤ result.least) × (result.least ≤ℤ pos 57600) }
+    ensures near_most { (neg_ℤ (pos 57600) ≤ℤ result.most) × (result.most ≤ℤ pos 57600) }
+{
+    let mut points = PointRange { least: 0, most: 0 };
+    for club in set.clubs() {
+        points = points.with(own_points(ends, deductions, club));
+    }
+    points
+}
+
+// What one club has alone, less what is taken off it; past the clubs there is nothing.
+fn own_points(ends: &Ends, deductions: &[u8], club: u8) -> PointRange
+    requires low { (pos 0 ≤ℤ end_at ends.now.lows club) × (end_at ends.now.lows club ≤ℤ pos 1800) }
+    requires high { (pos 0 ≤ℤ end_at ends.now.highs club)
+        × (end_at ends.now.highs club ≤ℤ pos 1800) }
+    ensures least { result.least
+        ≡ end_at ends.now.lows club -ℤ pos (slice_index deductions.now club) }
+    ensures most { result.most
+        ≡ end_at ends.now.highs club -ℤ pos (slice_index deductions.now club) }
+    ensures near_least { (neg_ℤ (pos 1800) ≤ℤ result.least) × (result.least ≤ℤ pos 1800) }
+    ensures near_most { (neg_ℤ (pos 1800) ≤ℤ result.most) × (result.most ≤ℤ pos 1800) }
+{
+    let off = i32::from(taken_off(deductions, club));
+    PointRange {
+        least: number_at(&ends.lows, club) - off,
+        most: number_at(&ends.highs, club) - off,
+    }
+}
+
+fn number_at(numbers: &[i32], club: u8) -> i32
+    ensures { result ≡ end_at numbers.now club }
+{
+    if (club as usize) < numbers.len() {
+        numbers[club as usize]
+    } else {
+        0
+    }
+}
+
+fn taken_off(deductions: &[u8], club: u8) -> u8
+    ensures { result ≡ slice_index deductions.now club }
+{
+    if (club as usize) < deductions.len() {
+        deductions[club as usize]
+    } else {
+        0
+    }
+}
+
+/// What the open matches between two clubs of a set leave both together, beyond what they leave
+/// each of them alone.
+#[inline(always)]
+pub fn beyond(open_matches: &OpenMatches, cells: &[Cell], set: ClubSet) -> PointRange
+    requires many { length open_matches.now.sides.items ≡ length open_matches.now.numbers.items }
+    requires in_range { All (λ number. number < length cells.now) open_matches.now.numbers.items }
+    requires few { length open_matches.now.numbers.items ≤ most_fixtures }
     requires some { HasOptions cells.now }
-    ensures range { IsRangeOver fixtures.now cells.now numbers.now (clubs_in set) result }
-    ensures within { (pos 0 ≤ℤ result.least) × (result.least ≤ℤ result.most)
-        × (result.most ≤ℤ most_points) }
+    ensures beyond { (fixtures : List Fixture)
+        → AreSidesOf fixtures open_matches.now.numbers.items open_matches.now.sides.items
+        → IsBeyondOver fixtures cells.now open_matches.now.numbers.items (clubs_in set) result }
+    ensures near_least { (neg_ℤ (pos 3600) ≤ℤ result.least) × (result.least ≤ℤ pos 3600) }
+    ensures near_most { (neg_ℤ (pos 3600) ≤ℤ result.most) × (result.most ≤ℤ pos 3600) }
 {
-    let mut total = PointRange { least: 0, most: 0 };
-    for i in 0..numbers.len() {
-        let number = numbers[i] as usize;
-        let home = set.has(fixtures[number].home);
-        let away = set.has(fixtures[number].away);
-        let left = cells[number].left();
-        total = total.with(left.points(home, away));
+    let mut points = PointRange { least: 0, most: 0 };
+    let mut place = open_matches.next_among(0, set);
+    while place < open_matches.numbers.len() {
+        let left = cells[open_matches.numbers[place] as usize].left();
+        points = points.with(left.beyond());
+        place = open_matches.next_among(place + 1, set);
     }
-    total
-}
-
-/// The points that are taken off the clubs of a set.
-pub fn deducted(deductions: &[u8], set: ClubSet) -> i32
-    requires { length deductions.now ≤ set_width }
-    ensures total { result
-        ≡ total_of (λ club. pos (slice_index deductions.now club)) (clubs_in set) }
-    ensures within { (pos 0 ≤ℤ result) × (result ≤ℤ most_taken_off) }
-{
-    let mut total = 0;
-    for club in 0..deductions.len() {
-        total += counted(set.has(club as u8), deductions[club]);
-    }
-    total
-}
-
-fn counted(counts: bool, points: u8) -> i32
-    ensures value { result ≡ (if counts then pos points else pos 0) }
-    ensures within { (pos 0 ≤ℤ result) × (result ≤ℤ pos 255) }
-{
-    if counts { i32::from(points) } else { 0 }
+    points
 }

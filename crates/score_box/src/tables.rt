@@ -1,13 +1,12 @@
 //! Tables of what was played, made in one walk over the fixtures.
 
 ghost use Rattle.std.specs.Prelude.{◌≡◌, ◌≢◌, ◌<◌, ◌≤◌, ◌+◌, ◌+ℤ◌, ℕ, pos, true, false, IfOk, []};
-ghost use Rattle.std.specs.Prelude.{◌∷◌, neg_ℤ, ◌≤ℤ◌, if◌then◌else◌, length};
+ghost use Rattle.std.specs.Prelude.{◌∷◌, length};
 ghost use Rattle.std.specs.List.{All};
 ghost use Rattle.league_core.specs.declared.season.Score.{Score};
 ghost use Rattle.league_core.specs.game.Limits.{most_fixtures};
 ghost use Rattle.league_core.specs.game.ClubSets.{clubs_in};
 ghost use Rattle.league_core.specs.game.Sums.{has_club, if_played, worth_to, worth_among};
-ghost use Rattle.league_core.specs.search.PointRanges.{total_of};
 ghost use Rattle.score_box.specs.inside.Ends.{IsMatch};
 ghost use Rattle.score_box.specs.inside.Totals.{AreTables, AreTotalsNear, TotalsGrowBy, AddsScore};
 ghost use Rattle.score_box.specs.inside.Totals.{AddsPairs, no_totals, totals_at, pair_place};
@@ -73,22 +72,6 @@ impl Tables {
         totals
     }
 
-    /// The points of the clubs of a set, added.
-    pub fn points_of(&self, set: ClubSet) -> i32
-        requires clubs { length self.now.clubs.items ≡ 24 }
-        requires near { (club : ℕ) → club < 24
-            → AreTotalsNear 153000 (totals_at self.now.clubs.items club) }
-        ensures sum { result
-            ≡ total_of (λ club. (totals_at self.now.clubs.items club).points) (clubs_in set) }
-        ensures near { (neg_ℤ (pos 4000000) ≤ℤ result) × (result ≤ℤ pos 4000000) }
-    {
-        let mut points = 0;
-        for club in 0..24 {
-            points += points_if(set.has(club), &self.of_club(club));
-        }
-        points
-    }
-
     pub fn copy(&self, alloc: Global) -> Result<Tables, OutOfMemory>
         ensures clubs { IfOk result (λ tables. tables.clubs.items ≡ self.now.clubs.items) }
         ensures pairs { IfOk result (λ tables. tables.pairs.items ≡ self.now.pairs.items) }
@@ -97,14 +80,6 @@ impl Tables {
         let pairs = Vec::from_slice(alloc, &self.pairs)?;
         Ok(Tables { clubs, pairs })
     }
-}
-
-fn points_if(counts: bool, totals: &Totals) -> i32
-    requires { AreTotalsNear 153000 totals.now }
-    ensures value { result ≡ (if counts then totals.now.points else pos 0) }
-    ensures within { (neg_ℤ (pos 153000) ≤ℤ result) × (result ≤ℤ pos 153000) }
-{
-    if counts { totals.points } else { 0 }
 }
 
 // Adds all matches that are played to tables that have none yet.

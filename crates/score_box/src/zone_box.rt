@@ -22,6 +22,7 @@ mod path;
 use crate::cell::Cell;
 use crate::ends::Ends;
 use crate::marks::Marks;
+use crate::open_matches::OpenMatches;
 use crate::played::Played;
 use crate::points::{self, PointRange};
 use crate::tables::Tables;
@@ -39,7 +40,7 @@ pub struct ZoneBox<'a> {
     season: &'a Season,
     zone: Vec<Literal>,
     trail: Vec<Undo>,
-    unplayed: Vec<u16>,
+    open_matches: OpenMatches,
     cells: Vec<Cell>,
     marks: Marks,
     ends: Ends,
@@ -61,8 +62,8 @@ impl<'a> Model for ZoneBox<'a> {
 
     ghost invariant = { λ b. IsBoxOf
         (record { sheet = b.sheet.now; season = b.season.now; zone = b.zone.items })
-        b.trail.items b.unplayed.items b.cells.items b.marks.before b.marks.after b.ends
-        b.tables.clubs.items b.tables.pairs.items };
+        b.trail.items b.open_matches.numbers.items b.open_matches.sides.items b.cells.items
+        b.marks.before b.marks.after b.ends b.tables.clubs.items b.tables.pairs.items };
 }
 
 impl<'a> ZoneBox<'a> {
@@ -115,14 +116,14 @@ impl<'a> ZoneBox<'a> {
         let sheet = played.sheet();
         let season = played.season();
         let cells = Vec::from_slice(alloc, played.cells())?;
-        let unplayed = Vec::from_slice(alloc, played.unplayed())?;
+        let open_matches = played.open_matches().copy(alloc)?;
         let tables = played.tables().copy(alloc)?;
         Ok(ZoneBox {
             sheet,
             season,
             zone: Vec::new(alloc),
             trail: Vec::new(alloc),
-            unplayed,
+            open_matches,
             cells,
             marks: Marks::none(),
             ends: played.ends(),
@@ -156,8 +157,9 @@ impl<'a> ZoneBox<'a> {
     }
 
     /// The least and the most points that the clubs of a set can have together: match points less
-    /// deductions, negative if the deductions exceed them. A walk over the clubs, and one over the
-    /// fixtures that are not played.
+    /// deductions, negative if the deductions exceed them. A walk over the clubs of the set, and
+    /// one over the matches that are not played.
+    #[inline(always)]
     pub fn points(&self, set: ClubSet) -> PointRange
         requires { HasFinish self.now }
         ensures least { result.least
@@ -167,11 +169,9 @@ impl<'a> ZoneBox<'a> {
         ensures in_order { result.least ≤ℤ result.most }
         ensures within { (neg_ℤ most_taken_off ≤ℤ result.least) × (result.most ≤ℤ most_points) }
     {
-        let fixtures = self.sheet.fixtures.as_slice();
-        let won = self.tables.points_of(set);
-        let left = points::points_left(fixtures, &self.cells, &self.unplayed, set);
-        let off = points::deducted(self.season.deductions(), set);
-        left.moved(won - off)
+        let alone = points::alone(&self.ends, self.season.deductions(), set);
+        let beyond = points::beyond(&self.open_matches, &self.cells, set);
+        alone.with(beyond)
     }
 
     /// The least points that the clubs of a set can have together, deductions taken off.

@@ -1,14 +1,15 @@
--- Answers: a step at each club of a group in turn, and what the steps of the sure order
--- say.
+-- Answers: what is said of each club of a group in turn, and what the steps of the sure order say.
 use Rattle.std.proofs.Common.{◌≡◌, ◌≢◌, ◌⊎◌, inl, inr, ℕ, ◌+◌, ◌<◌, ℤ, pos, neg_ℤ, ◌+ℤ◌, ◌-ℤ◌}
-use Rattle.std.proofs.Common.{Bool, false, nat_lt, ◌&&◌, ◌||◌, ◌==◌, cond, List, [], ◌∷◌, ◌++◌}
+use Rattle.std.proofs.Common.{Bool, true, false, nat_lt, ◌&&◌, ◌||◌, ◌==◌, cond, List, [], ◌∷◌}
+use Rattle.std.proofs.Common.{◌++◌}
 use Rattle.std.proofs.Common.{slice_index}
 use Rattle.std.proofs.Common.{refl, sym, ap, ◌∙◌, arith}
 use Rattle.std.proofs.lemmas.Bool.{false≢true, cases_eq, cases_lt, eq-eqb, ne_eqb}
 use Rattle.std.proofs.lemmas.Bool.{lt-ltb, le-ltb, cases_Bool}
 use Rattle.std.proofs.lemmas.Int.{ints}
 use Rattle.league_core.specs.declared.sheet.Sheet.{Sheet}
-use Rattle.league_core.proofs.SeenLemmas.{each_seen, not_seen}
+use Rattle.league_core.proofs.SeenLemmas.{seen_before}
+use Rattle.league_core.proofs.WalkLemmas.{stands_after}
 use Rattle.league_core.specs.declared.season.Score.{Score}
 use Rattle.league_core.specs.declared.sure.Sure.{Sure}
 use Rattle.league_core.specs.declared.sure.Sure.TheVariants.{Above, Below, Level, Unknown}
@@ -35,13 +36,6 @@ use Rattle.tie_bound.specs.inside.Answers.{overall_ranges_of, by_table, by_overa
 use Rattle.tie_bound.specs.inside.Answers.{is_sure_by}
 use Rattle.tie_bound.specs.inside.Answers.{answer_at, AreLevelIn, StepDecides, IsStepIn}
 
--- before the first club nothing has changed
-pub step_begins : (next : ℕ → Sure) (old : Answers) → IsStepIn [] next old old
-step_begins next old = record {
-  inside = λ club has. absurd (false≢true has);
-  outside = λ club out. refl;
-}
-
 -- an answer is put in the place of one, and the others stay
 pub record IsPut (at : ℕ) (answer : Sure) (old new : Answers) : Type 0 where
   pub is : (other : ℕ) → answer_at new other ≡ cond (at == other) answer (answer_at old other)
@@ -57,23 +51,60 @@ put_beside at club answer old new put apart =
     put.is club
     ∙ ap (λ b. cond b answer (answer_at old club)) (ne_eqb at club (λ same. apart (sym same)))
 
--- the clubs so far have gone on, and so does the next one
-pub step_goes_on : (next : ℕ → Sure) (seen : List ℕ) (at : ℕ) (old now new : Answers)
-    (answer : Sure) → IsStepIn seen next old now → has_club seen at ≡ false
-    → IsPut at answer now new → answer ≡ sure_then (answer_at now at) (next at)
-    → IsStepIn (seen ++ at ∷ []) next old new
-step_goes_on next seen at old now new answer so_far is_new put is = record {
-  inside = each_seen
-      (λ club. answer_at now club ≡ sure_then (answer_at old club) (next club))
-      (λ club. answer_at new club ≡ sure_then (answer_at old club) (next club)) seen at
-      (λ club apart before. put_beside at club answer now new put apart ∙ before)
-      (put_here at answer now new put ∙ is
-      ∙ ap (λ a. sure_then a (next at)) (so_far.outside at is_new))
-      so_far.inside;
-  outside = λ club out.
-      let apart = not_seen seen at club out in
-      put_beside at club answer now new put apart.0 ∙ so_far.outside club apart.1;
+-- what is said of the clubs of a list, and of no others
+pub record AreSaidOf (wanted : ℕ → Sure) (seen : List ℕ) (answers : Answers) : Type 0 where
+  pub is : (club : ℕ) → answer_at answers club ≡ cond (has_club seen club) (wanted club) Unknown
+
+pub none_said : (wanted : ℕ → Sure) (answers : Answers)
+    → ((club : ℕ) → answer_at answers club ≡ Unknown) → AreSaidOf wanted [] answers
+none_said wanted answers none = record { is = none }
+
+-- of the next one nothing is said yet
+pub next_unsaid : (wanted : ℕ → Sure) (seen : List ℕ) (at : ℕ) (answers : Answers)
+    → AreSaidOf wanted seen answers → has_club seen at ≡ false → answer_at answers at ≡ Unknown
+next_unsaid wanted seen at answers so_far is_new =
+    so_far.is at ∙ ap (λ b. cond b (wanted at) Unknown) is_new
+
+-- one answer more
+pub said_more : (wanted : ℕ → Sure) (seen : List ℕ) (at : ℕ) (answer : Sure) (now new : Answers)
+    → AreSaidOf wanted seen now → IsPut at answer now new → answer ≡ wanted at
+    → AreSaidOf wanted (seen ++ at ∷ []) new
+said_more wanted seen at answer now new so_far put same = record {
+  is = λ club. by_club club (cases_eq club at);
 }
+  where
+    by_club : (club : ℕ) → (club ≡ at) ⊎ (club ≢ at)
+        → answer_at new club ≡ cond (has_club (seen ++ at ∷ []) club) (wanted club) Unknown
+    by_club club (inl here) =
+        ap (answer_at new) here
+        ∙ put_here at answer now new put
+        ∙ same
+        ∙ ap wanted (sym here)
+        ∙ ap (λ b. cond b (wanted club) Unknown)
+        (sym (ap (has_club (seen ++ at ∷ [])) here ∙ stands_after seen at []))
+    by_club club (inr apart) =
+        put_beside at club answer now new put apart
+        ∙ so_far.is club
+        ∙ ap (λ b. cond b (wanted club) Unknown) (seen_before seen at club apart)
+
+-- a step by something else that says the same of each club of the group
+pub step_as : (group : List ℕ) (said next : ℕ → Sure) (old new : Answers)
+    → IsStepIn group said old new
+    → ((club : ℕ) → has_club group club ≡ true → said club ≡ next club)
+    → IsStepIn group next old new
+step_as group said next old new step same = record {
+  inside = λ club has. step.inside club has
+      ∙ ap (sure_then (answer_at old club)) (same club has);
+  outside = step.outside;
+}
+
+-- a step by what is said of the clubs of a group
+pub step_by_said : (wanted : ℕ → Sure) (group : List ℕ) (said old new : Answers)
+    → AreSaidOf wanted group said → IsStepIn group (answer_at said) old new
+    → IsStepIn group wanted old new
+step_by_said wanted group said old new are step =
+    step_as group (answer_at said) wanted old new step
+    (λ club has. are.is club ∙ ap (λ b. cond b (wanted club) Unknown) has)
 
 -- if an answer is not level the next step changes nothing
 pub not_level_keeps : (answer next : Sure) → is_level answer ≡ false
@@ -220,13 +251,6 @@ by_overall_table-read sheet table club rival sums own rank own_rank sums_are own
     (overall_ranges_of s own_rank)) own_is
     ∙ ap (λ (n : ℕ). sure_by_ranges (overall_ranges_of (sums_at table rival) (rank_of sheet rival))
     (overall_ranges_of (sums_at table club) n)) own_rank_is
-
--- a step at one club, from the answer that stood there
-pub next_is : (old next : ℕ → Sure) (answer first second : Sure) (k : ℕ)
-    → answer ≡ sure_then first second → first ≡ old k → second ≡ next k
-    → answer ≡ sure_then (old k) (next k)
-next_is old next answer first second k is first_is second_is =
-    is ∙ ap (λ a. sure_then a second) first_is ∙ ap (sure_then (old k)) second_is
 
 -- the answer by points, from the points of both that were found
 pub by_points-read : (sheet : Sheet) (season : Results) (options : List (List Score))

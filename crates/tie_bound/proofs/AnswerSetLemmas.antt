@@ -1,14 +1,14 @@
 -- Answers as three sets: how they change with the sets.
-use Rattle.std.proofs.Common.{◌≡◌, ℕ, Bool, true, false, not, ◌&&◌, ◌||◌, ◌==◌, cond, [], ◌∷◌}
+use Rattle.std.proofs.Common.{◌≡◌, ℕ, Bool, true, false, not, ◌&&◌, ◌||◌, ◌==◌, cond, []}
 use Rattle.std.proofs.Common.{List, refl, sym, ap, ◌∙◌}
 use Rattle.std.proofs.lemmas.Bool.{eqb-true}
 use Rattle.league_core.specs.declared.sure.Sure.{Sure}
 use Rattle.league_core.specs.declared.sure.Sure.TheVariants.{Above, Below, Level, Unknown}
 use Rattle.league_core.specs.game.Sums.{has_club}
 use Rattle.league_core.specs.game.ClubSets.{clubs_in}
-use Rattle.league_core.specs.search.SureOrder.{is_above, is_below, is_level}
+use Rattle.league_core.specs.search.SureOrder.{sure_then, is_above, is_below, is_level}
 use Rattle.tie_bound.specs.declared.answer_sets.Answers.{Answers}
-use Rattle.tie_bound.specs.inside.Answers.{in_sets, answer_at, is_answer}
+use Rattle.tie_bound.specs.inside.Answers.{in_sets, answer_at, is_answer, IsStepIn}
 
 -- the answer of a club, from which of the sets have it
 pub answer_is : (answers : Answers) (club : ℕ) (above below level : Bool)
@@ -97,67 +97,82 @@ answers_with old new club answer above below level nothing above_is below_is lev
     (has_club (clubs_in old.below) k) (has_club (clubs_in old.level) k))
     (sym (eqb-true club x same)) ∙ nothing)
 
--- without the answer of one club
-without_one : (here above below level : Bool)
-    → in_sets (above && not here) (below && not here) (level && not here)
-    ≡ cond here Unknown (in_sets above below level)
-without_one true above below level =
-    none_of (above && false) (below && false) (level && false) (never above) (never below)
-    (never level)
-  where
-    never : (b : Bool) → (b && false) ≡ false
-    never true = refl
-    never false = refl
-without_one false above below level =
-    ap (λ b. in_sets b (below && true) (level && true)) (ever above)
-    ∙ ap (λ b. in_sets above b (level && true)) (ever below)
-    ∙ ap (in_sets above below) (ever level)
-  where
-    ever : (b : Bool) → (b && true) ≡ b
-    ever true = refl
-    ever false = refl
+-- what is said next counts in the group, if nothing is decided so far
+then_one : (above below level inside next_above next_below next_level : Bool)
+    → (let open_ = (level && not (above || below)) && inside in
+    in_sets (above || (open_ && next_above)) (below || (open_ && next_below))
+    ((level && not open_) || (open_ && next_level)))
+    ≡ cond inside (sure_then (in_sets above below level)
+    (in_sets next_above next_below next_level)) (in_sets above below level)
+then_one true below level true next_above next_below next_level = refl
+then_one true below level false next_above next_below next_level = refl
+then_one false true true true next_above next_below next_level = refl
+then_one false true true false next_above next_below next_level = refl
+then_one false true false true next_above next_below next_level = refl
+then_one false true false false next_above next_below next_level = refl
+then_one false false true true next_above next_below next_level = refl
+then_one false false true false next_above next_below next_level = refl
+then_one false false false true next_above next_below next_level = refl
+then_one false false false false next_above next_below next_level = refl
 
-pub answers_without : (old new : Answers) (club : ℕ) (single : List ℕ) → single ≡ club ∷ []
+pub answers_then : (old next new : Answers) (group : List ℕ) (open_ : ℕ → Bool)
+    → ((x : ℕ) → open_ x ≡ ((has_club (clubs_in old.level) x
+    && not (has_club (clubs_in old.above) x || has_club (clubs_in old.below) x))
+    && has_club group x))
     → ((x : ℕ) → has_club (clubs_in new.above) x
-    ≡ (has_club (clubs_in old.above) x && not (has_club single x)))
+    ≡ (has_club (clubs_in old.above) x || (open_ x && has_club (clubs_in next.above) x)))
     → ((x : ℕ) → has_club (clubs_in new.below) x
-    ≡ (has_club (clubs_in old.below) x && not (has_club single x)))
+    ≡ (has_club (clubs_in old.below) x || (open_ x && has_club (clubs_in next.below) x)))
     → ((x : ℕ) → has_club (clubs_in new.level) x
-    ≡ (has_club (clubs_in old.level) x && not (has_club single x)))
-    → (x : ℕ) → answer_at new x ≡ cond (club == x) Unknown (answer_at old x)
+    ≡ ((has_club (clubs_in old.level) x && not (open_ x))
+    || (open_ x && has_club (clubs_in next.level) x)))
+    → IsStepIn group (answer_at next) old new
 unfolding answer_at
-answers_without old new club single alone in_above in_below in_level x =
-    ap (λ b. in_sets b (has_club (clubs_in new.below) x) (has_club (clubs_in new.level) x))
-    (in_above x ∙ ap (λ b. has_club (clubs_in old.above) x && not b) here)
-    ∙ ap (λ b. in_sets (has_club (clubs_in old.above) x && not (club == x)) b
-    (has_club (clubs_in new.level) x))
-    (in_below x ∙ ap (λ b. has_club (clubs_in old.below) x && not b) here)
-    ∙ ap (in_sets (has_club (clubs_in old.above) x && not (club == x))
-    (has_club (clubs_in old.below) x && not (club == x)))
-    (in_level x ∙ ap (λ b. has_club (clubs_in old.level) x && not b) here)
-    ∙ without_one (club == x) (has_club (clubs_in old.above) x) (has_club (clubs_in old.below) x)
-    (has_club (clubs_in old.level) x)
+answers_then old next new group open_ open_is in_above in_below in_level = record {
+  inside = λ x has. at x
+      ∙ ap (λ b. cond b (sure_then (was x) (said x)) (was x)) has;
+  outside = λ x out. at x
+      ∙ ap (λ b. cond b (sure_then (was x) (said x)) (was x)) out;
+}
   where
-    or_none : (b : Bool) → (b || false) ≡ b
-    or_none true = refl
-    or_none false = refl
+    was : ℕ → Sure
+    was x = in_sets (has_club (clubs_in old.above) x) (has_club (clubs_in old.below) x)
+        (has_club (clubs_in old.level) x)
 
-    here : has_club single x ≡ (club == x)
-    here = ap (λ xs. has_club xs x) alone ∙ or_none (club == x)
+    said : ℕ → Sure
+    said x = in_sets (has_club (clubs_in next.above) x) (has_club (clubs_in next.below) x)
+        (has_club (clubs_in next.level) x)
 
--- an answer in the place of another
-pub put_over : (old between new : Answers) (club : ℕ) (answer : Sure)
-    → ((x : ℕ) → answer_at between x ≡ cond (club == x) Unknown (answer_at old x))
-    → ((x : ℕ) → answer_at new x ≡ cond (club == x) answer (answer_at between x))
-    → (x : ℕ) → answer_at new x ≡ cond (club == x) answer (answer_at old x)
-put_over old between new club answer without with_it x =
-    with_it x
-    ∙ ap (cond (club == x) answer) (without x)
-    ∙ again (club == x) (answer_at old x)
-  where
-    again : (b : Bool) (was : Sure) → cond b answer (cond b Unknown was) ≡ cond b answer was
-    again true was = refl
-    again false was = refl
+    at : (x : ℕ) → in_sets (has_club (clubs_in new.above) x) (has_club (clubs_in new.below) x)
+        (has_club (clubs_in new.level) x)
+        ≡ cond (has_club group x) (sure_then (was x) (said x)) (was x)
+    at x =
+        ap (λ b. in_sets b (has_club (clubs_in new.below) x) (has_club (clubs_in new.level) x))
+        (in_above x
+        ∙ ap (λ b. has_club (clubs_in old.above) x || (b && has_club (clubs_in next.above) x))
+        (open_is x))
+        ∙ ap (λ b. in_sets (has_club (clubs_in old.above) x
+        || (((has_club (clubs_in old.level) x
+        && not (has_club (clubs_in old.above) x || has_club (clubs_in old.below) x))
+        && has_club group x) && has_club (clubs_in next.above) x)) b
+        (has_club (clubs_in new.level) x))
+        (in_below x
+        ∙ ap (λ b. has_club (clubs_in old.below) x || (b && has_club (clubs_in next.below) x))
+        (open_is x))
+        ∙ ap (in_sets (has_club (clubs_in old.above) x
+        || (((has_club (clubs_in old.level) x
+        && not (has_club (clubs_in old.above) x || has_club (clubs_in old.below) x))
+        && has_club group x) && has_club (clubs_in next.above) x))
+        (has_club (clubs_in old.below) x
+        || (((has_club (clubs_in old.level) x
+        && not (has_club (clubs_in old.above) x || has_club (clubs_in old.below) x))
+        && has_club group x) && has_club (clubs_in next.below) x)))
+        (in_level x
+        ∙ ap (λ b. (has_club (clubs_in old.level) x && not b)
+        || (b && has_club (clubs_in next.level) x)) (open_is x))
+        ∙ then_one (has_club (clubs_in old.above) x) (has_club (clubs_in old.below) x)
+        (has_club (clubs_in old.level) x) (has_club group x) (has_club (clubs_in next.above) x)
+        (has_club (clubs_in next.below) x) (has_club (clubs_in next.level) x)
 
 -- ---- the sets of each answer
 

@@ -8,6 +8,8 @@ pub mod BoxLemmas
 pub mod TableLemmas
 pub mod SoFarLemmas
 pub mod RowLemmas
+pub mod PointLemmas
+pub mod OpenLemmas
 pub mod WantedLemmas
 pub mod AnswerSetLemmas
 pub mod AnswerLemmas

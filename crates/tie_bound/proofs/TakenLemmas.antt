@@ -30,33 +30,19 @@ use Rattle.tie_bound.specs.inside.Boxes.{options_in_box}
 use Rattle.tie_bound.specs.inside.Tables.{AreSums, AreSumsFor}
 use Rattle.tie_bound.specs.inside.Answers.{record_ranges_of, first_ranges_of, overall_ranges_of}
 use Rattle.tie_bound.specs.inside.Answers.{by_table, by_overall_table, is_sure_by, answer_at}
-use Rattle.tie_bound.specs.inside.Answers.{AreByPoints, AreLevelIn, StepDecides, IsStepIn}
+use Rattle.tie_bound.specs.inside.Answers.{AreByPoints, AreLevelIn, IsStepIn}
 use Rattle.tie_bound.proofs.AnswerLemmas.{record_ranges_of-is, overall_ranges_of-is}
-use Rattle.tie_bound.proofs.AnswerLemmas.{first_ranges_of-is, step_decides, AreOthersDecided}
-
--- a step in the group of the clubs that are level, by what it says of each of them
-taken_by : (clubs : ℕ) (step next : ℕ → Sure) (group : List ℕ) (answers taken : Answers)
-    → AreOthersDecided clubs answers group → IsStepIn group step answers taken
-    → ((rival : ℕ) → has_club group rival ≡ true → step rival ≡ next rival)
-    → StepDecides clubs next answers taken
-taken_by clubs step next group answers taken decided goes same =
-    step_decides clubs next group answers taken decided (record {
-      inside = λ rival has. goes.inside rival has
-          ∙ ap (sure_then (answer_at answers rival)) (same rival has);
-      outside = goes.outside;
-    })
+use Rattle.tie_bound.proofs.AnswerLemmas.{first_ranges_of-is, step_as}
 
 -- the records by the table of a group
-pub taken_records : (sheet : Sheet) (options : List (List Score)) (club : ℕ) (group : List ℕ)
+pub step_by_records : (sheet : Sheet) (options : List (List Score)) (club : ℕ) (group : List ℕ)
     (table : List Sums) (answers taken : Answers)
     → AreSums (worth_among group) sheet.fixtures options table
-    → AreOthersDecided (length sheet.clubs) answers group
     → IsStepIn group (by_table Record table club) answers taken
-    → StepDecides (length sheet.clubs)
-    (λ rival. by_record_ranges sheet options group rival club) answers taken
-taken_records sheet options club group table answers taken are decided goes =
-    taken_by (length sheet.clubs) (by_table Record table club)
-    (λ rival. by_record_ranges sheet options group rival club) group answers taken decided goes
+    → IsStepIn group (λ rival. by_record_ranges sheet options group rival club) answers taken
+step_by_records sheet options club group table answers taken are step =
+    step_as group (by_table Record table club)
+    (λ rival. by_record_ranges sheet options group rival club) answers taken step
     (λ rival has.
     ap (λ rs. sure_by_ranges rs (record_ranges_of (sums_at table club)))
     (record_ranges_of-is sheet options group table rival are)
@@ -64,16 +50,14 @@ taken_records sheet options club group table answers taken are decided goes =
     (record_ranges_of-is sheet options group table club are))
 
 -- difference and goals by a table of all matches for the group and the club
-pub taken_first_sums : (sheet : Sheet) (options : List (List Score)) (club : ℕ) (group : List ℕ)
-    (table : List Sums) (answers taken : Answers)
+pub step_by_first_sums : (sheet : Sheet) (options : List (List Score)) (club : ℕ)
+    (group : List ℕ) (table : List Sums) (answers taken : Answers)
     → AreSumsFor group club sheet.fixtures options table
-    → AreOthersDecided (length sheet.clubs) answers group
     → IsStepIn group (by_table FirstSums table club) answers taken
-    → StepDecides (length sheet.clubs) (λ rival. by_first_sum_ranges sheet options rival club)
-    answers taken
-taken_first_sums sheet options club group table answers taken are decided goes =
-    taken_by (length sheet.clubs) (by_table FirstSums table club)
-    (λ rival. by_first_sum_ranges sheet options rival club) group answers taken decided goes
+    → IsStepIn group (λ rival. by_first_sum_ranges sheet options rival club) answers taken
+step_by_first_sums sheet options club group table answers taken are step =
+    step_as group (by_table FirstSums table club)
+    (λ rival. by_first_sum_ranges sheet options rival club) answers taken step
     (λ rival has.
     ap (λ rs. sure_by_ranges rs (first_ranges_of (sums_at table club)))
     (first_ranges_of-is sheet options table rival (are rival (inl has)))
@@ -81,16 +65,14 @@ taken_first_sums sheet options club group table answers taken are decided goes =
     (first_ranges_of-is sheet options table club (are club (inr refl))))
 
 -- the sums over all matches, and the ranks
-pub taken_overall : (sheet read : Sheet) (options : List (List Score)) (club : ℕ)
+pub step_by_overall : (sheet read : Sheet) (options : List (List Score)) (club : ℕ)
     (group : List ℕ) (table : List Sums) (taken last : Answers) → read ≡ sheet
     → AreSumsFor group club sheet.fixtures options table
-    → AreOthersDecided (length sheet.clubs) taken group
     → IsStepIn group (by_overall_table read table club) taken last
-    → StepDecides (length sheet.clubs) (λ rival. by_overall_ranges sheet options rival club)
-    taken last
-taken_overall sheet read options club group table taken last same are decided goes =
-    taken_by (length sheet.clubs) (by_overall_table read table club)
-    (λ rival. by_overall_ranges sheet options rival club) group taken last decided goes
+    → IsStepIn group (λ rival. by_overall_ranges sheet options rival club) taken last
+step_by_overall sheet read options club group table taken last same are step =
+    step_as group (by_overall_table read table club)
+    (λ rival. by_overall_ranges sheet options rival club) taken last step
     (λ rival has.
     ap (λ s. by_overall_table s table club rival) same
     ∙ ap (λ rs. sure_by_ranges rs (overall_ranges_of (sums_at table club) (rank_of sheet club)))

@@ -1,7 +1,7 @@
 -- Sums over all matches of some clubs alone.
-use Rattle.std.proofs.Common.{◌≡◌, ◌≢◌, ◌⊎◌, inl, inr, ℕ, ◌<◌, Bool, true, false, ◌||◌}
-use Rattle.std.proofs.Common.{pos, eqb, cond, List, [], refl, sym, ap, ◌∙◌, subst, arith}
-use Rattle.std.proofs.lemmas.Bool.{false≢true, ne_eqb}
+use Rattle.std.proofs.Common.{◌≡◌, ◌≢◌, ◌⊎◌, inl, inr, ℕ, ◌<◌, ◌≤◌, Bool, true, false, not, ◌&&◌}
+use Rattle.std.proofs.Common.{nat_lt, pos, eqb, cond, List, [], refl, sym, ap, ◌∙◌, subst, arith}
+use Rattle.std.proofs.lemmas.Bool.{false≢true, ne_eqb, and_parts, cases_lt, lt-ltb, le-ltb}
 use Rattle.league_core.specs.declared.sheet.Fixture.{Fixture}
 use Rattle.league_core.specs.declared.season.Score.{Score}
 use Rattle.league_core.specs.game.Sums.{has_club, worth_to}
@@ -34,25 +34,37 @@ other_grows match options club sums home away =
         (λ score. cond at_home (to_side (worth_of measure) false score)
         (cond at_away (to_side (worth_of measure) true score) (pos 0))) options
 
--- so does a match of none of the wanted clubs
-pub unwanted_grows : (wanted : List ℕ) (match : Fixture) (options : List Score) (club : ℕ)
-    (sums : Sums) → (has_club wanted match.home || has_club wanted match.away) ≡ false
-    → ((match.home ≡ club) ⊎ (match.away ≡ club) → has_club wanted club ≡ true)
+-- so does a match of two of the others to a club that is none of them
+pub match_of_others : (others : List ℕ) (match : Fixture) (options : List Score) (club : ℕ)
+    (sums : Sums) → (has_club others match.home && has_club others match.away) ≡ true
+    → has_club others club ≡ false
     → RangesGrowBy (λ measure. range_of (worth_to (worth_of measure) club match) options) sums sums
-unwanted_grows wanted match options club sums none wants =
+match_of_others others match options club sums both out =
+    let are = and_parts (has_club others match.home) (has_club others match.away) both in
     other_grows match options club sums
-    (λ home. false≢true (sym (neither (has_club wanted match.home) (has_club wanted match.away)
-    none).0 ∙ ap (has_club wanted) home ∙ wants (inl home)))
-    (λ away. false≢true (sym (neither (has_club wanted match.home) (has_club wanted match.away)
-    none).1 ∙ ap (has_club wanted) away ∙ wants (inr away)))
-  where
-    neither : (b c : Bool) → (b || c) ≡ false → (b ≡ false) × (c ≡ false)
-    neither true c is = absurd (false≢true (sym is))
-    neither false c is = (refl, is)
+    (λ home. false≢true (sym out ∙ sym (ap (has_club others) home) ∙ are.0))
+    (λ away. false≢true (sym out ∙ sym (ap (has_club others) away) ∙ are.1))
 
--- a club of a match is one of the sheet, so it is wanted if each club of the sheet would be
-pub side_wanted : (clubs : ℕ) (wanted : List ℕ) (match : Fixture) (club : ℕ)
-    → match.home < clubs → match.away < clubs → IsWanted clubs wanted club
-    → (match.home ≡ club) ⊎ (match.away ≡ club) → has_club wanted club ≡ true
-side_wanted clubs wanted match club home away wants (inl is) = wants (omega arith)
-side_wanted clubs wanted match club home away wants (inr is) = wants (omega arith)
+-- a wanted club is none of the others, nor is a number that is no club's
+pub wanted_is_no_other : (clubs : ℕ) (wanted others : List ℕ) (club : ℕ)
+    → has_club others club ≡ (nat_lt club clubs && not (has_club wanted club))
+    → IsWanted clubs wanted club → has_club others club ≡ false
+wanted_is_no_other clubs wanted others club is wants = is ∙ at (cases_lt club clubs)
+  where
+    at : (club < clubs) ⊎ (clubs ≤ club) → (nat_lt club clubs && not (has_club wanted club)) ≡ false
+    at (inl low) =
+        ap (λ b. b && not (has_club wanted club)) (lt-ltb club clubs low)
+        ∙ ap not (wants low)
+    at (inr past) = ap (λ b. b && not (has_club wanted club)) (le-ltb club clubs past)
+
+-- and what is none of the others is wanted
+pub no_other_is_wanted : (clubs : ℕ) (wanted others : List ℕ) (club : ℕ)
+    → has_club others club ≡ (nat_lt club clubs && not (has_club wanted club))
+    → has_club others club ≡ false → IsWanted clubs wanted club
+no_other_is_wanted clubs wanted others club is out low =
+    unless (has_club wanted club) (sym (ap (λ b. b && not (has_club wanted club))
+    (lt-ltb club clubs low)) ∙ sym is ∙ out)
+  where
+    unless : (b : Bool) → not b ≡ false → b ≡ true
+    unless true none = refl
+    unless false none = absurd (false≢true (sym none))

@@ -12,10 +12,9 @@ ghost use Rattle.tie_bound.specs.inside.Answers.{answer_at, AreByPoints, AreLeve
 ghost use Rattle.tie_bound.specs.inside.Answers.{StepDecidesFor};
 
 use crate::answer_sets::Answers;
-use crate::answers::{are_all_sure, by_ends, by_points, leave_open, take_parts};
-use crate::parts::Parts;
-use crate::selected::sums_for;
-use crate::table::sums_over;
+use crate::answers::by_least;
+use crate::steps::{by_all_matches, take_first_sums};
+use crate::taken::leave_open;
 use crate::tie_rounds::take_rounds;
 use league_core::{ClubSet, Order};
 use score_box::ZoneBox;
@@ -28,9 +27,9 @@ pub fn answers_on_points(zone_box: &ZoneBox, club: u8) -> Answers
 {
     let clubs = zone_box.sheet().clubs.len() as u8;
     if club < clubs && zone_box.has_finish() {
-        by_ends(zone_box, club)
+        by_least(zone_box, club)
     } else {
-        by_points(zone_box, &sums_over(zone_box), club)
+        by_all_matches(zone_box, club)
     }
 }
 
@@ -83,11 +82,10 @@ fn take_overall_first(
         (clubs_in group) rival club) answers result }
 {
     let clubs = zone_box.sheet().clubs.len() as u8;
-    let overall = sums_for(zone_box, group, club);
-    let taken = take_parts(answers, Parts::FirstSums, &overall, group, club);
-    if !are_all_sure(Parts::FirstSums, &overall, group, club) {
-        return leave_open(taken, group);
+    let taken = take_first_sums(answers, zone_box, group, club);
+    if !taken.is_sure {
+        return leave_open(taken.answers, group);
     }
-    let level = taken.those_level(clubs);
-    take_rounds(taken, zone_box, asked, level, club)
+    let level = taken.answers.those_level(clubs);
+    take_rounds(taken.answers, zone_box, asked, level, club)
 }

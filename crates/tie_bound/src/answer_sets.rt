@@ -6,7 +6,7 @@ ghost use Rattle.league_core.specs.declared.sure.Sure.TheVariants.{Unknown};
 ghost use Rattle.league_core.specs.game.Sums.{has_club};
 ghost use Rattle.league_core.specs.game.ClubSets.{clubs_in};
 ghost use Rattle.league_core.specs.search.SureOrder.{is_above, is_below, is_level};
-ghost use Rattle.tie_bound.specs.inside.Answers.{answer_at};
+ghost use Rattle.tie_bound.specs.inside.Answers.{answer_at, IsStepIn};
 
 use crate::order::is_answer;
 use league_core::{ClubSet, Sure};
@@ -64,26 +64,19 @@ impl Answers {
         }
     }
 
-    /// With this answer of a club, in the place of the one that it had.
-    pub fn put(self, club: u8, answer: Sure) -> Answers
-        requires { club < 32 }
-        ensures { (other : ℕ) → answer_at result other
-            ≡ (if club == other then answer else answer_at self other) }
+    /// The answers, and for those clubs of a group that are level so far what is said next.
+    pub fn then_in(self, group: ClubSet, next: Answers) -> Answers
+        ensures { IsStepIn (clubs_in group) (answer_at next) self result }
     {
-        self.without(club).with(club, answer)
-    }
-
-    // Without the answer of a club.
-    fn without(self, club: u8) -> Answers
-        requires { club < 32 }
-        ensures { (other : ℕ) → answer_at result other
-            ≡ (if club == other then Unknown else answer_at self other) }
-    {
-        let single = ClubSet::single(club);
+        let decided = self.above.union(self.below);
+        let level = self.level.without(decided).intersection(group);
         Answers {
-            above: self.above.without(single),
-            below: self.below.without(single),
-            level: self.level.without(single),
+            above: self.above.union(level.intersection(next.above)),
+            below: self.below.union(level.intersection(next.below)),
+            level: self
+                .level
+                .without(level)
+                .union(level.intersection(next.level)),
         }
     }
 

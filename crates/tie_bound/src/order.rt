@@ -28,6 +28,19 @@ pub fn by_range(rival: IntRange, club: IntRange) -> Sure
     }
 }
 
+/// One value is above the other, below it or level with it.
+pub fn by_value(rival: i32, club: i32) -> Sure
+    ensures { result ≡ sure_by_range (one_value rival) (one_value club) }
+{
+    if club < rival {
+        Sure::Above
+    } else if rival < club {
+        Sure::Below
+    } else {
+        Sure::Level
+    }
+}
+
 /// If one step leaves the two level, the next decides.
 pub fn then(first: Sure, next: Sure) -> Sure
     ensures { result ≡ sure_then first next }
@@ -55,17 +68,20 @@ pub fn by_parts(parts: Parts, rival: &Sums, club: &Sums) -> Sure
 fn by_record(rival: &Sums, club: &Sums) -> Sure
     ensures { result ≡ sure_by_ranges (record_ranges_of rival.now) (record_ranges_of club.now) }
 {
-    let by_goals = by_range(rival.goals, club.goals);
-    let by_difference = then(by_range(rival.difference, club.difference), by_goals);
-    then(by_range(rival.points, club.points), by_difference)
+    match by_range(rival.points, club.points) {
+        Sure::Level => by_first_sums(rival, club),
+        decided => decided,
+    }
 }
 
 // Goal difference, then goals, by the sums over all matches.
 fn by_first_sums(rival: &Sums, club: &Sums) -> Sure
     ensures { result ≡ sure_by_ranges (first_ranges_of rival.now) (first_ranges_of club.now) }
 {
-    let by_goals = by_range(rival.goals, club.goals);
-    then(by_range(rival.difference, club.difference), by_goals)
+    match by_range(rival.difference, club.difference) {
+        Sure::Level => by_range(rival.goals, club.goals),
+        decided => decided,
+    }
 }
 
 /// What decides after the head-to-head, by the sums over all matches, then the fixed ranks.

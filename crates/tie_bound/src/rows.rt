@@ -1,40 +1,41 @@
-//! Tables of the clubs' sums over the matches that are played, by looks at what a box keeps.
+//! Tables of the clubs' sums over the matches that are played, by looks at what a box keeps. A
+//! table is its user's: it is filled in place.
 
 ghost use Rattle.std.specs.Prelude.{◌≡◌, ◌<◌, ℕ, true, length};
 ghost use Rattle.league_core.specs.game.Sums.{has_club, worth_to, worth_among};
 ghost use Rattle.league_core.specs.game.ClubSets.{clubs_in};
+ghost use Rattle.tie_bound.specs.inside.Sums.{no_sums, sums_at};
 ghost use Rattle.tie_bound.specs.inside.Rows.{AreRows, IsRow};
 
 use crate::sums::Sums;
 use league_core::ClubSet;
 use score_box::ZoneBox;
 
-/// Each club's sums over all matches that are played, by the clubs' numbers.
-pub fn rows_over(zone_box: &ZoneBox) -> [Sums; 24]
-    ensures rows { AreRows worth_to zone_box.now.sheet.fixtures zone_box.now.season.scores result }
-    ensures long { length result ≡ 24 }
+/// Puts each club's sums over all matches that are played into a table that has none yet, by the
+/// clubs' numbers.
+pub fn put_rows_over(table: &mut [Sums], zone_box: &ZoneBox)
+    requires long { length table.old ≡ 24 }
+    requires none { (club : ℕ) → sums_at table.old club ≡ no_sums }
+    ensures { AreRows worth_to zone_box.now.sheet.fixtures zone_box.now.season.scores table.new }
 {
-    let mut table = [Sums::NONE; 24];
     for club in 0..zone_box.sheet().clubs.len() as u8 {
         table[club as usize] = row_over(zone_box, club);
     }
-    table
 }
 
-/// Each club's sums over those with both ends in the group. A club outside it has none.
-pub fn rows_among(zone_box: &ZoneBox, group: ClubSet) -> [Sums; 24]
-    requires { (member : ℕ) → has_club (clubs_in group) member ≡ true
+/// Puts each club's sums over those with both ends in the group. A club outside it has none.
+pub fn put_rows_among(table: &mut [Sums], zone_box: &ZoneBox, group: ClubSet)
+    requires long { length table.old ≡ 24 }
+    requires none { (club : ℕ) → sums_at table.old club ≡ no_sums }
+    requires group { (member : ℕ) → has_club (clubs_in group) member ≡ true
         → member < length zone_box.now.sheet.clubs }
-    ensures rows { AreRows (worth_among (clubs_in group)) zone_box.now.sheet.fixtures
-        zone_box.now.season.scores result }
-    ensures long { length result ≡ 24 }
+    ensures { AreRows (worth_among (clubs_in group)) zone_box.now.sheet.fixtures
+        zone_box.now.season.scores table.new }
 {
     let _sheet = zone_box.sheet();
-    let mut table = [Sums::NONE; 24];
     for club in group.clubs() {
         table[club as usize] = row_among(zone_box, group, club);
     }
-    table
 }
 
 /// A club's sums over all matches that are played.

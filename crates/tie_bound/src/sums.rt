@@ -1,6 +1,6 @@
 //! The ranges of a club's six sums.
 
-ghost use Rattle.std.specs.Prelude.{◌≡◌, pos};
+ghost use Rattle.std.specs.Prelude.{◌≡◌, ◌<◌, pos, length};
 ghost use Rattle.league_core.specs.search.PointRanges.{one_value, added};
 ghost use Rattle.tie_criteria.specs.declared.measure.Measure.{Measure};
 ghost use Rattle.tie_bound.specs.inside.IntRanges.{IsRangeNear};
@@ -72,9 +72,22 @@ impl Sums {
     }
 }
 
+static NO_SUMS: Sums = Sums::NONE;
+
 /// The sums at the club's number; past the last one those of a club without a match.
-pub fn sums_at(table: &[Sums], club: u8) -> Sums
-    ensures { result ≡ sums_at table.now club }
+pub fn sums_at(table: &[Sums], club: u8) -> &Sums
+    ensures { result.now ≡ sums_at table.now club }
 {
-    table.get(club as usize).copied().unwrap_or(Sums::NONE)
+    match table.get(club as usize) {
+        Some(sums) => sums,
+        None => &NO_SUMS,
+    }
+}
+
+/// The sums at the number of a club that the table has.
+pub fn row(table: &[Sums], club: u8) -> &Sums
+    requires { club < length table.now }
+    ensures { result.now ≡ sums_at table.now club }
+{
+    &table[club as usize]
 }

@@ -7,10 +7,8 @@ ghost use Rattle.tie_bound.specs.inside.Boxes.{options_in_box, have_one_outcome}
 ghost use Rattle.tie_bound.specs.inside.Answers.{AreLevelIn, StepDecidesFor};
 
 use crate::answer_sets::Answers;
-use crate::answers::{are_all_sure, leave_open, take_overall, take_parts};
-use crate::parts::Parts;
-use crate::selected::sums_for;
-use crate::table::sums_among;
+use crate::steps::{take_last, take_records};
+use crate::taken::leave_open;
 use league_core::ClubSet;
 use score_box::ZoneBox;
 
@@ -29,25 +27,22 @@ pub fn take_rounds(
         (λ rival. sure_in zone_box.now.sheet (options_in_box zone_box.now) (clubs_in group) rival
         club) answers result }
 {
-    let sheet = zone_box.sheet();
-    let clubs = sheet.clubs.len() as u8;
+    let clubs = zone_box.sheet().clubs.len() as u8;
     let mut now = answers;
     let mut group = group;
     'smaller: for time in 0..group.len() {
         if group.intersection(asked).is_empty() {
             return now;
         }
-        let table = sums_among(zone_box, group);
-        let taken = take_parts(now, Parts::Record, &table, group, club);
-        if !are_all_sure(Parts::Record, &table, group, club) {
-            return leave_open(taken, group);
+        let taken = take_records(now, zone_box, group, club);
+        if !taken.is_sure {
+            return leave_open(taken.answers, group);
         }
-        let level = taken.those_level(clubs);
+        let level = taken.answers.those_level(clubs);
         if level.len() == group.len() {
-            let overall = sums_for(zone_box, group, club);
-            return take_overall(taken, sheet, &overall, group, club);
+            return take_last(taken.answers, zone_box, group, club);
         }
-        now = taken;
+        now = taken.answers;
         group = level;
     }
     now

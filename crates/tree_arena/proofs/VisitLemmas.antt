@@ -1,8 +1,7 @@
--- The list of an arena's tree, node by node with a stack.
+-- The list of an arena's tree, node by node with a stack, and looks at its nodes.
 use Rattle.std.proofs.Common.{◌≡◌, ℕ, zero, suc, ◌+◌, ◌<◌, ◌≤◌, Bool, true, List, [], ◌∷◌, ◌++◌}
-use Rattle.std.proofs.Common.{length}
-use Rattle.std.proofs.Common.{get_or, drop, reverse, refl, sym, ap, ◌∙◌, subst, arith, append_assoc}
-use Rattle.std.proofs.lemmas.List.{reverse-append}
+use Rattle.std.proofs.Common.{length, Option, Some}
+use Rattle.std.proofs.Common.{get_or, drop, refl, sym, ap, ◌∙◌, subst, arith, append_assoc}
 use Rattle.league_core.specs.declared.tree.TreeNode.{TreeNode}
 use Rattle.league_core.specs.declared.zone.Test.{Test}
 use Rattle.league_core.specs.search.Trees.{branch, preorder, node_count}
@@ -12,8 +11,10 @@ use Rattle.tree_arena.specs.declared.node.Node.{Node}
 use Rattle.tree_arena.specs.inside.Arena.{shape_over, shapes, tree_below, AllWithin}
 use Rattle.tree_arena.specs.inside.Arena.{AreHalvesWithin, listed_kind, stack_after, pending}
 use Rattle.tree_arena.specs.inside.Arena.{pending_count, AreNodes, HasRoomFor}
+use Rattle.tree_arena.specs.inside.Steps.{from_next}
+use Rattle.tree_arena.specs.inside.Subtrees.{look_under, seen_by}
 use Rattle.tree_arena.specs.declared.node.TheConstants.{MOST_NUMBERS}
-use Rattle.tree_arena.proofs.ShapeLemmas.{shapes-at}
+use Rattle.tree_arena.proofs.ShapeLemmas.{shapes-at, length-shapes}
 use Rattle.tree_arena.proofs.LinkLemmas.{half_tree}
 
 -- the halves of a split are nodes
@@ -90,43 +91,40 @@ pub record ListsNodes (nodes : List Node) (stack : List ℕ) (found wanted : Lis
   pub are : AreNodes (length nodes) stack
   pub become : found ++ pending nodes stack ≡ wanted
 
--- the number on top is that of a node
-pub lists_top : (nodes : List Node) (stack rest : List ℕ) (at : ℕ) (found wanted : List TreeNode)
-    → ListsNodes nodes (reverse stack) found wanted → stack ≡ rest ++ at ∷ []
-    → ListsNodes nodes (at ∷ reverse rest) found wanted
-lists_top nodes stack rest at found wanted lists popped =
-    subst (λ (list : List ℕ). ListsNodes nodes list found wanted)
-    (ap reverse popped ∙ reverse-append rest (at ∷ [])) lists
+-- the node that comes next is the first of them
+pub lists_next : (nodes : List Node) (next : Option ℕ) (at : ℕ) (stack : List ℕ)
+    (found wanted : List TreeNode) → ListsNodes nodes (from_next next stack) found wanted
+    → next ≡ Some at → ListsNodes nodes (at ∷ stack) found wanted
+lists_next nodes next at stack found wanted lists is =
+    subst (λ (one : Option ℕ). ListsNodes nodes (from_next one stack) found wanted) is lists
 
-pub lists_on : (nodes : List Node) (stack rest next : List ℕ) (at : ℕ) (default : Node)
+-- it goes on with the node that comes next
+pub lists_on : (nodes : List Node) (rest next : List ℕ) (at : ℕ) (default : Node)
     (found more wanted : List TreeNode) → AllWithin nodes
-    → ListsNodes nodes (reverse stack) found wanted → stack ≡ rest ++ at ∷ []
-    → reverse next ≡ stack_after (get_or nodes at default).kind at (reverse rest)
+    → ListsNodes nodes (at ∷ rest) found wanted
+    → next ≡ stack_after (get_or nodes at default).kind at rest
     → more ≡ found ++ listed_kind (get_or nodes at default).kind ∷ []
-    → ListsNodes nodes (reverse next) more wanted
-lists_on nodes stack rest next at default found more wanted within lists popped next_is more_is =
-    let top = lists_top nodes stack rest at found wanted lists popped in
+    → ListsNodes nodes next more wanted
+lists_on nodes rest next at default found more wanted within lists next_is more_is =
     let kind = (get_or nodes at default).kind in
-    let step = visits nodes at kind default (reverse rest) within top.are.0 top.are.1 refl in
+    let step = visits nodes at kind default rest within lists.are.0 lists.are.1 refl in
     rw (next_is, more_is) (record {
       are = step.are;
       become = append_assoc found (listed_kind kind ∷ [])
-          (pending nodes (stack_after kind at (reverse rest)))
-          ∙ ap (λ list. found ++ list) step.same ∙ top.become;
+          (pending nodes (stack_after kind at rest))
+          ∙ ap (λ list. found ++ list) step.same ∙ lists.become;
     })
 
 -- fewer nodes are to come
-pub lists_less : (nodes : List Node) (stack rest next : List ℕ) (at : ℕ) (default : Node)
+pub lists_less : (nodes : List Node) (rest next : List ℕ) (at : ℕ) (default : Node)
     (found wanted : List TreeNode) → AllWithin nodes
-    → ListsNodes nodes (reverse stack) found wanted → stack ≡ rest ++ at ∷ []
-    → reverse next ≡ stack_after (get_or nodes at default).kind at (reverse rest)
-    → pending_count nodes (reverse next) < pending_count nodes (reverse stack)
-lists_less nodes stack rest next at default found wanted within lists popped next_is =
-    let top = lists_top nodes stack rest at found wanted lists popped in
+    → ListsNodes nodes (at ∷ rest) found wanted
+    → next ≡ stack_after (get_or nodes at default).kind at rest
+    → pending_count nodes next < pending_count nodes (at ∷ rest)
+lists_less nodes rest next at default found wanted within lists next_is =
     let kind = (get_or nodes at default).kind in
-    let step = visits nodes at kind default (reverse rest) within top.are.0 top.are.1 refl in
+    let step = visits nodes at kind default rest within lists.are.0 lists.are.1 refl in
     let less = step.less in
-    let before = ap (pending_count nodes) (ap reverse popped ∙ reverse-append rest (at ∷ [])) in
     let after = ap (pending_count nodes) next_is in
     omega arith
 
@@ -142,3 +140,44 @@ room_for nodes at default within here few = by_kind (get_or nodes at default).ki
     by_kind (Refuted reason fresh) is = tt
     by_kind (Split test fresh half) is =
         let last = halves_within nodes at default test fresh half within here is in omega arith
+
+-- a look at a node is one at the first node of the tree below it
+pub record SeesTree (nodes : List Node) (at : ℕ) (kind : Kind) : Type 0 where
+  pub tree : tree_below nodes at ≡ seen_by (shapes nodes) (look_under kind at)
+  pub yes_half : (look_under kind at).yes_half < length (shapes nodes)
+  pub no_half : (look_under kind at).no_half < length (shapes nodes)
+
+pub sees : (nodes : List Node) (at : ℕ) (kind : Kind) (default : Node) → AllWithin nodes
+    → at < length nodes → (get_or nodes at default).kind ≡ kind → SeesTree nodes at kind
+sees nodes at Open default within here is =
+    let many = length-shapes nodes in
+    record {
+      tree = shapes-at nodes at default here
+          ∙ ap (λ k. shape_over k (drop (suc at) (shapes nodes))) is;
+      yes_half = omega arith;
+      no_half = omega arith;
+    }
+sees nodes at (Lent number) default within here is =
+    let many = length-shapes nodes in
+    record {
+      tree = shapes-at nodes at default here
+          ∙ ap (λ k. shape_over k (drop (suc at) (shapes nodes))) is;
+      yes_half = omega arith;
+      no_half = omega arith;
+    }
+sees nodes at (Refuted reason fresh) default within here is =
+    let many = length-shapes nodes in
+    record {
+      tree = shapes-at nodes at default here
+          ∙ ap (λ k. shape_over k (drop (suc at) (shapes nodes))) is;
+      yes_half = omega arith;
+      no_half = omega arith;
+    }
+sees nodes at (Split test fresh half) default within here is =
+    let many = length-shapes nodes in
+    let last = halves_within nodes at default test fresh half within here is in
+    record {
+      tree = half_tree nodes at (suc (at + half)) true test fresh half default here is refl;
+      yes_half = omega arith;
+      no_half = omega arith;
+    }

@@ -14,9 +14,11 @@ mod list;
 mod node;
 mod shorten;
 mod stop;
+mod subtrees;
 mod tree;
 mod zones;
 
 pub use example::Example;
 pub use stop::TreeStop;
+pub use subtrees::{Look, Subtrees};
 pub use tree::{MOST_NODES, Tree};

@@ -1,11 +1,11 @@
 //! The list of an arena's tree, from its first node on.
 
-ghost use Rattle.std.specs.Prelude.{◌≡◌, ◌<◌, ◌≤◌, ◌++◌, ◌∷◌, [], length, reverse, slice_index_or};
-ghost use Rattle.std.specs.Prelude.{IfOk};
+ghost use Rattle.std.specs.Prelude.{◌≡◌, ◌<◌, ◌≤◌, length, reverse, IfOk};
 ghost use Rattle.league_core.specs.search.Trees.{preorder};
 ghost use Rattle.tree_arena.specs.declared.node.Node.{Node};
 ghost use Rattle.tree_arena.specs.inside.Arena.{AllWithin, tree_below, listed_kind, stack_after};
 ghost use Rattle.tree_arena.specs.inside.Arena.{HasRoomFor};
+ghost use Rattle.tree_arena.specs.inside.Steps.{from_next};
 
 use crate::node::{Kind, MOST_NUMBERS, Node};
 use league_core::{OutOfMemory, TreeNode};
@@ -20,16 +20,17 @@ pub fn list_nodes(alloc: Global, nodes: &[Node]) -> Result<Vec<TreeNode>, OutOfM
 {
     let mut found = Vec::with_capacity(alloc, nodes.len())?;
     let mut stack = Vec::new(alloc);
-    stack.push(0)?;
-    while let Some(at) = stack.pop() {
+    let mut next = Some(0);
+    while let Some(at) = next {
         let kind = nodes[at as usize].kind;
-        push_halves(kind, at, &mut stack)?;
         found.push(listed(kind))?;
+        next = next_node(kind, at, &mut stack)?;
     }
     Ok(found)
 }
 
-fn listed(kind: Kind) -> TreeNode
+/// The node as the list has it.
+pub fn listed(kind: Kind) -> TreeNode
     ensures { result ≡ listed_kind kind }
 {
     match kind {
@@ -40,16 +41,17 @@ fn listed(kind: Kind) -> TreeNode
     }
 }
 
-// The halves of a split come next, the yes half first.
-fn push_halves(kind: Kind, at: u32, stack: &mut Vec<u32>) -> Result<(), OutOfMemory>
+// The node that comes next: after a split its yes half, and its no half waits on the stack; after a
+// leaf the one that waits on top.
+fn next_node(kind: Kind, at: u32, stack: &mut Vec<u32>) -> Result<Option<u32>, OutOfMemory>
     requires { HasRoomFor kind at }
-    ensures { IfOk result
-        (λ _. reverse stack.new.items ≡ stack_after kind at (reverse stack.old.items)) }
+    ensures { IfOk result (λ next. from_next next (reverse stack.new.items)
+        ≡ stack_after kind at (reverse stack.old.items)) }
 {
     if let Kind::Split(_, _, half) = kind {
         let first = at + half + 1;
         stack.push(first + 1)?;
-        stack.push(first)?;
+        return Ok(Some(first));
     }
-    Ok(())
+    Ok(stack.pop())
 }

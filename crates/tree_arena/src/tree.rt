@@ -1,7 +1,7 @@
 //! The tree in an arena: a list of nodes, one of the leaves that are open or lent, in order, and
 //! one of those that are lent.
 
-ghost use Rattle.std.specs.Prelude.{◌≡◌, ◌≤◌, ◌+◌, ◌↔◌, true, length, IsTrue, IfOk};
+ghost use Rattle.std.specs.Prelude.{◌≡◌, ◌<◌, ◌≤◌, ◌+◌, ◌↔◌, true, length, IsTrue, IfOk};
 ghost use Rattle.std.specs.Prelude.{IfErr, OnOk, OnErr};
 ghost use Rattle.std.specs.Option.{is_some};
 ghost use Rattle.league_core.specs.search.TreeLists.{tree_of};
@@ -11,6 +11,7 @@ ghost use Rattle.league_core.specs.search.Trees.{has_open, is_refuted, preorder,
 ghost use Rattle.league_core.specs.inside.Lending.{times_lent, lent_count, put, all_opened};
 ghost use Rattle.tree_arena.specs.inside.Calls.{IsFirstLent, Lending, literals_of, most_nodes};
 ghost use Rattle.tree_arena.specs.inside.Arena.{IsPathTo};
+ghost use Rattle.tree_arena.specs.inside.Subtrees.{subtree_at};
 
 use crate::arena::{find, last_open, split_leaf, take_at, take_leaf, write};
 use crate::build::{Build, is_tree};
@@ -18,6 +19,7 @@ use crate::last_path::move_to;
 use crate::list::list_nodes;
 use crate::node::{Kind, Node};
 use crate::stop::TreeStop;
+use crate::subtrees::Subtrees;
 use crate::zones::list_zones;
 use league_core::{Listing, Literal, OutOfMemory, Reason, RoomyList, Test, TreeNode, Zone};
 use std::alloc::Global;
@@ -244,6 +246,14 @@ impl Tree {
         list_nodes(self.alloc, self.nodes.as_slice())
     }
 
+    /// The trees below its nodes, to be looked at one by one.
+    pub fn subtrees(&self) -> Subtrees<'_>
+        ensures some { 0 < length result }
+        ensures tree { subtree_at result 0 ≡ self.now }
+    {
+        Subtrees::of(self.nodes.as_slice())
+    }
+
     /// The tree whose nodes are this list; `NoTree` hands the list back exactly when no tree has
     /// it, and if memory runs out it is dropped. Its open leaves are lent as the list has them, the
     /// first one first.
@@ -255,13 +265,14 @@ impl Tree {
         if !is_tree(nodes.as_slice()) {
             return Err(TreeStop::NoTree(nodes));
         }
-        match Tree::of_list(alloc, nodes.as_slice()) {
+        match Tree::of_preorder(alloc, nodes.as_slice()) {
             Ok(tree) => Ok(tree),
             Err(_) => Err(TreeStop::OutOfMemory),
         }
     }
 
-    fn of_list(alloc: Global, list: &[TreeNode]) -> Result<Tree, OutOfMemory>
+    /// As `of_nodes`, of the list of a tree, which is not looked at for that.
+    pub fn of_preorder(alloc: Global, list: &[TreeNode]) -> Result<Tree, OutOfMemory>
         requires few { length list.now ≤ most_nodes }
         requires some { IsTrue (is_some (tree_of list.now)) }
         ensures { IfOk result (λ tree. preorder tree ≡ list.now) }

@@ -1,12 +1,11 @@
--- The walk over the list of a tree's nodes: each node takes it on, and at its end everything that
--- was wanted is found.
-use Rattle.std.proofs.Common.{◌≡◌, ℕ, suc, ◌+◌, ◌≤◌, ◌<◌, Bool, true, false, List, [], ◌∷◌}
-use Rattle.std.proofs.Common.{◌++◌, length, take, drop, get_or, reverse, add-one, drop-cons}
-use Rattle.std.proofs.Common.{Option, Some, None, IsTrue, refl, sym, ap, ◌∙◌, subst, append_assoc}
-use Rattle.std.proofs.Common.{append-nil, arith, length-drop}
-use Rattle.std.proofs.lemmas.Option.{none-some, same_Some}
+-- The walk over a tree's nodes: each node takes it on, and at its end everything that was wanted is
+-- found.
+use Rattle.std.proofs.Common.{◌≡◌, ℕ, ◌+◌, ◌≤◌, ◌<◌, Bool, true, false, List, [], ◌∷◌}
+use Rattle.std.proofs.Common.{◌++◌, length, take, Option, Some, None, IsTrue, refl, sym, ap, ◌∙◌}
+use Rattle.std.proofs.Common.{subst, append_assoc, append-nil, arith}
 use Rattle.std.proofs.lemmas.List.{take_all}
-use Rattle.std.proofs.lemmas.List.{reverse-append}
+use Rattle.std.proofs.lemmas.List.Elements.{All-head, All-tail}
+use Rattle.league_core.proofs.plain.Parts.{All-first, All-last}
 use Rattle.league_core.specs.declared.sheet.Sheet.{Sheet}
 use Rattle.league_core.specs.declared.question.Question.{Question}
 use Rattle.league_core.specs.declared.zone.Test.{Test}
@@ -15,457 +14,253 @@ use Rattle.league_core.specs.declared.tree.TreeNode.{TreeNode}
 use Rattle.league_core.specs.declared.tree.TreeNode.TheVariants.{Split, Open, Lent, Refuted}
 use Rattle.league_core.specs.game.Results.{Results}
 use Rattle.league_core.specs.search.Zones.{is_test_of}
-use Rattle.league_core.specs.search.Trees.{Tree, open_leaf, lent_leaf, refuted_leaf, branch}
-use Rattle.league_core.specs.search.Trees.{preorder}
-use Rattle.league_core.specs.search.TreeLists.{with_node, trees_of, trees_of-preorder}
+use Rattle.league_core.specs.search.Trees.{Tree, branch, preorder, node_count}
 use Rattle.score_box.specs.inside.ZoneBoxViews.{ZoneBoxView}
+use Rattle.tree_arena.specs.declared.subtrees.Look.{Look}
+use Rattle.tree_arena.specs.inside.Calls.{IsNodeOf, AreTestsOf}
+use Rattle.tree_arena.specs.inside.Steps.{from_next, literal_of, zone_of_part}
+use Rattle.tree_arena.specs.inside.Subtrees.{subtree_at, tree_over}
+use Rattle.tree_arena.proofs.ZoneLemmas.{length-zone_of_part, zone_of_part-begins}
 use Rattle.tree_reuse.specs.declared.halves.Halves.{Halves}
 use Rattle.tree_reuse.specs.declared.halves.Halves.TheVariants.{Both, YesAlone, NoAlone}
 use Rattle.tree_reuse.specs.declared.carry.Part.{Part}
-use Rattle.tree_reuse.specs.declared.carry.Part.TheVariants.{Dropped, Kept}
 use Rattle.tree_reuse.specs.Retargets.{halves_in, retargeted_from}
-use Rattle.tree_reuse.specs.inside.Carrying.{path_after, nodes_to_come}
-use Rattle.tree_arena.specs.inside.Steps.{literal_of, zone_of_part}
-use Rattle.tree_reuse.specs.inside.Carrying.{halves_kept, parts_after, split_kept, nodes_kept}
-use Rattle.tree_reuse.specs.inside.Carrying.{parts_next, nodes_next, ArePartsOf, IsWalk}
-use Rattle.tree_arena.specs.inside.Calls.{IsNodeOf}
-use Rattle.tree_arena.proofs.ZoneLemmas.{length-zone_of_part, zone_of_part-begins}
+use Rattle.tree_reuse.specs.inside.Carrying.{nodes_to_come, part_alone, halves_kept}
+use Rattle.tree_reuse.specs.inside.Carrying.{parts_after, split_kept, nodes_kept}
+use Rattle.tree_reuse.specs.inside.Carrying.{ArePartsOf, count_to_come, TakesPart, IsWalk}
 
--- a part that is to come has a node
-pub walk_some : (question : Question) (zone_box : ZoneBoxView) (nodes : List TreeNode) (part : Part)
-    (parts : List Part) (found wanted : List TreeNode)
-    → IsWalk question zone_box nodes (part ∷ parts) found wanted → 1 ≤ length nodes
-walk_some question zone_box [] part parts found wanted walk =
-    let none : [] ≡ walk.trees = same_Some [] walk.trees walk.left in
-    let same = ap length none in
-    let many = walk.many in
-    absurd (omega arith)
-walk_some question zone_box (node ∷ nodes) part parts found wanted walk = omega arith
+-- ---- the tests of a tree
+
+-- the first node of a tree is of the sheet, and so are the tests of its halves
+pub first_of_sheet : (sheet : Sheet) (node : TreeNode) (yes_half no_half : Tree)
+    → AreTestsOf sheet (tree_over node yes_half no_half) → IsNodeOf sheet node
+first_of_sheet sheet Open yes_half no_half tests = tt
+first_of_sheet sheet (Lent number) yes_half no_half tests = tt
+first_of_sheet sheet (Refuted reason fresh) yes_half no_half tests = tt
+first_of_sheet sheet (Split test fresh) yes_half no_half tests =
+    All-head (IsNodeOf sheet) (Split test fresh) (preorder yes_half ++ preorder no_half) tests
+
+halves_of_sheet : (sheet : Sheet) (test : Test) (fresh : Bool) (yes_half no_half : Tree)
+    → AreTestsOf sheet (branch test fresh yes_half no_half)
+    → AreTestsOf sheet yes_half × AreTestsOf sheet no_half
+halves_of_sheet sheet test fresh yes_half no_half tests =
+    let rest = All-tail (IsNodeOf sheet) (Split test fresh) (preorder yes_half ++ preorder no_half)
+    tests in (
+      All-first (IsNodeOf sheet) (preorder yes_half) (preorder no_half) rest,
+      All-last (IsNodeOf sheet) (preorder yes_half) (preorder no_half) rest,
+    )
+
+-- ---- parts
 
 -- parts that stand no deeper stand no deeper than what is deeper still
-parts_of-deeper : (sheet : Sheet) (depth more : ℕ) (parts : List Part) → depth ≤ more
-    → ArePartsOf sheet depth parts → ArePartsOf sheet more parts
-parts_of-deeper sheet depth more [] deeper are = tt
-parts_of-deeper sheet depth more (Dropped ∷ parts) deeper are =
-    parts_of-deeper sheet depth more parts deeper are
-parts_of-deeper sheet depth more (Kept start literal ∷ parts) deeper are =
-    let within = are.0 in (omega arith, are.1, are.2)
+parts_of-deeper : (sheet : Sheet) (trees : List Tree) (depth more : ℕ) (parts : List Part)
+    → depth ≤ more → ArePartsOf sheet trees depth parts → ArePartsOf sheet trees more parts
+parts_of-deeper sheet trees depth more [] deeper are = tt
+parts_of-deeper sheet trees depth more (part ∷ parts) deeper are =
+    let within = are.0.no_deeper in (
+      record {
+        within = are.0.within;
+        no_deeper = omega arith;
+        literal = are.0.literal;
+        tests = are.0.tests;
+      },
+      are.1,
+    )
 
 -- two ways that begin with the same literals are one to parts that stand no deeper
+zone_of_part-same : (zone_box other : List Literal) (depth : ℕ) (literal : Option Literal)
+    → take depth zone_box ≡ take depth other
+    → zone_of_part zone_box depth literal ≡ zone_of_part other depth literal
+zone_of_part-same zone_box other depth None same = same
+zone_of_part-same zone_box other depth (Some literal) same = ap (λ zone. zone ++ literal ∷ []) same
+
 nodes_to_come-deeper : (sheet : Sheet) (season : Results) (question : Question)
-    (zone_box other : List
-    Literal)
-    (depth : ℕ) (parts : List Part) (trees : List Tree)
+    (trees : List Tree) (zone_box other : List Literal) (depth : ℕ) (parts : List Part)
     → ((start : ℕ) → start ≤ depth → take start zone_box ≡ take start other)
-    → ArePartsOf sheet depth parts
-    → nodes_to_come sheet season question zone_box parts trees
-    ≡ nodes_to_come sheet season question other parts trees
-nodes_to_come-deeper sheet season question zone_box other depth [] trees same are = refl
-nodes_to_come-deeper sheet season question zone_box other depth (part ∷ parts) [] same are = refl
-nodes_to_come-deeper sheet season question zone_box other depth (Dropped ∷ parts) (tree ∷ trees)
-    same
-    are =
-    nodes_to_come-deeper sheet season question zone_box other depth parts trees same are
-nodes_to_come-deeper sheet season question zone_box other depth (Kept start None ∷ parts)
-    (tree ∷ trees)
-    same
-    are =
-    ap (λ zone. preorder (retargeted_from sheet season question zone tree)
-    ++ nodes_to_come sheet season question zone_box parts trees) (same start are.0)
-    ∙ ap (λ rest. preorder (retargeted_from sheet season question (take start other) tree) ++ rest)
-    (nodes_to_come-deeper sheet season question zone_box other start parts trees
-    (λ less le. same less (let top = are.0 in omega arith)) are.2)
-nodes_to_come-deeper sheet season question zone_box other depth (Kept start (Some literal) ∷ parts)
-    (tree ∷ trees) same are =
-    ap (λ zone. preorder (retargeted_from sheet season question (zone ++ literal ∷ []) tree)
-    ++ nodes_to_come sheet season question zone_box parts trees) (same start are.0)
-    ∙ ap (λ rest. preorder
-    (retargeted_from sheet season question (take start other ++ literal ∷ []) tree) ++ rest)
-    (nodes_to_come-deeper sheet season question zone_box other start parts trees
-    (λ less le. same less (let top = are.0 in omega arith)) are.2)
+    → ArePartsOf sheet trees depth parts
+    → nodes_to_come sheet season question trees zone_box parts
+    ≡ nodes_to_come sheet season question trees other parts
+nodes_to_come-deeper sheet season question trees zone_box other depth [] same are = refl
+nodes_to_come-deeper sheet season question trees zone_box other depth (part ∷ parts) same are =
+    let top = are.0.no_deeper in
+    ap (λ zone. preorder (retargeted_from sheet season question zone (subtree_at trees part.at))
+    ++ nodes_to_come sheet season question trees zone_box parts)
+    (zone_of_part-same zone_box other part.depth part.literal (same part.depth top))
+    ∙ ap (λ rest. preorder (retargeted_from sheet season question
+    (zone_of_part other part.depth part.literal) (subtree_at trees part.at)) ++ rest)
+    (nodes_to_come-deeper sheet season question trees zone_box other part.depth parts
+    (λ start less. same start (omega arith)) are.1)
 
--- a walk that was taken on by a node: what is left is read, the parts are as many, and what is
--- still to come makes up the list
-record IsNext (question : Question) (zone_box : ZoneBoxView) (rest : List TreeNode)
-    (zone : List Literal)
-    (parts : List Part) (found wanted : List TreeNode) : Type 0 where
-  trees : List Tree
-  left : trees_of rest ≡ Some trees
-  many : length parts ≡ length trees
-  parts_of : ArePartsOf zone_box.sheet (length zone) parts
-  become : found ++ nodes_to_come zone_box.sheet zone_box.season question zone parts trees ≡ wanted
-
--- the halves of a split that stays in part stand on its subtrees, and become what the split does
-halves_become : (sheet : Sheet) (season : Results) (question : Question) (zone : List Literal)
-    (halves : Halves) (test : Test) (parts : List Part) (yes_half no_half : Tree)
-    (trees : List Tree)
+-- the halves of a split that stays in part become what the split does
+halves_become : (sheet : Sheet) (season : Results) (question : Question) (trees : List Tree)
+    (zone : List Literal) (halves : Halves) (test : Test) (look : Look) (parts : List Part)
     → split_kept halves test
-    ++ nodes_to_come sheet season question zone (halves_kept halves (length zone) test parts)
-    (yes_half ∷ no_half ∷ trees)
+    ++ nodes_to_come sheet season question trees zone
+    (halves_kept halves (length zone) test look parts)
     ≡ preorder (elim halves [
       | Both ↦ branch test false
-          (retargeted_from sheet season question (zone ++ literal_of test true ∷ []) yes_half)
-          (retargeted_from sheet season question (zone ++ literal_of test false ∷ []) no_half)
-      | YesAlone ↦ retargeted_from sheet season question zone yes_half
-      | NoAlone ↦ retargeted_from sheet season question zone no_half
-    ]) ++ nodes_to_come sheet season question zone parts trees
-halves_become sheet season question zone Both test parts yes_half no_half trees =
+          (retargeted_from sheet season question (zone ++ literal_of test true ∷ [])
+          (subtree_at trees look.yes_half))
+          (retargeted_from sheet season question (zone ++ literal_of test false ∷ [])
+          (subtree_at trees look.no_half))
+      | YesAlone ↦ retargeted_from sheet season question zone (subtree_at trees look.yes_half)
+      | NoAlone ↦ retargeted_from sheet season question zone (subtree_at trees look.no_half)
+    ]) ++ nodes_to_come sheet season question trees zone parts
+halves_become sheet season question trees zone Both test look parts =
     let at = λ (zone_box : List Literal). λ (holds : Bool). λ (tree : Tree).
     preorder (retargeted_from sheet season question (zone_box ++ literal_of test holds ∷ []) tree)
     in
-    let rest = nodes_to_come sheet season question zone parts trees in
+    let yes_half = subtree_at trees look.yes_half in
+    let no_half = subtree_at trees look.no_half in
+    let rest = nodes_to_come sheet season question trees zone parts in
     ap (λ zone_box. Split test false ∷ (at zone_box true yes_half ++
     (at zone_box false no_half ++ rest)))
     (take_all (length zone) zone (omega arith))
     ∙ ap (λ nodes. Split test false ∷ nodes)
     (sym (append_assoc (at zone true yes_half) (at zone false no_half) rest))
-halves_become sheet season question zone YesAlone test parts yes_half no_half trees =
-    ap (λ zone_box. preorder (retargeted_from sheet season question zone_box yes_half)
-    ++ nodes_to_come sheet season question zone parts trees) (take_all (length zone) zone (omega
-    arith))
-halves_become sheet season question zone NoAlone test parts yes_half no_half trees =
-    ap (λ zone_box. preorder (retargeted_from sheet season question zone_box no_half)
-    ++ nodes_to_come sheet season question zone parts trees) (take_all (length zone) zone (omega
-    arith))
+halves_become sheet season question trees zone YesAlone test look parts =
+    ap (λ zone_box. preorder (retargeted_from sheet season question zone_box
+    (subtree_at trees look.yes_half)) ++ nodes_to_come sheet season question trees zone parts)
+    (take_all (length zone) zone (omega arith))
+halves_become sheet season question trees zone NoAlone test look parts =
+    ap (λ zone_box. preorder (retargeted_from sheet season question zone_box
+    (subtree_at trees look.no_half)) ++ nodes_to_come sheet season question trees zone parts)
+    (take_all (length zone) zone (omega arith))
 
--- its parts are no deeper than the zone
-halves_of : (sheet : Sheet) (halves : Halves) (depth : ℕ) (test : Test) (parts : List Part)
-    → IsTrue (is_test_of sheet test) → ArePartsOf sheet depth parts
-    → ArePartsOf sheet depth (halves_kept halves depth test parts)
-halves_of sheet Both depth test parts of_sheet are =
-    (omega arith, of_sheet, (omega arith, of_sheet, are))
-halves_of sheet YesAlone depth test parts of_sheet are = (omega arith, tt, are)
-halves_of sheet NoAlone depth test parts of_sheet are = (omega arith, tt, are)
+-- they are no deeper than the zone
+halves_are : (sheet : Sheet) (trees : List Tree) (halves : Halves) (depth : ℕ) (test : Test)
+    (look : Look) (parts : List Part) → IsTrue (is_test_of sheet test)
+    → look.yes_half < length trees → look.no_half < length trees
+    → AreTestsOf sheet (subtree_at trees look.yes_half)
+    → AreTestsOf sheet (subtree_at trees look.no_half) → ArePartsOf sheet trees depth parts
+    → ArePartsOf sheet trees depth (halves_kept halves depth test look parts)
+halves_are sheet trees Both depth test look parts of_sheet yes_half no_half of_yes of_no are = (
+  record { within = yes_half; no_deeper = omega arith; literal = of_sheet; tests = of_yes },
+  (record { within = no_half; no_deeper = omega arith; literal = of_sheet; tests = of_no }, are),
+)
+halves_are sheet trees YesAlone depth test look parts of_sheet yes_half no_half of_yes of_no are =
+    (record { within = yes_half; no_deeper = omega arith; literal = tt; tests = of_yes }, are)
+halves_are sheet trees NoAlone depth test look parts of_sheet yes_half no_half of_yes of_no are =
+    (record { within = no_half; no_deeper = omega arith; literal = tt; tests = of_no }, are)
 
--- they are two more
-length-halves_kept : (halves : Halves) (depth : ℕ) (test : Test) (parts : List Part)
-    → length (halves_kept halves depth test parts) ≡ suc (suc (length parts))
-length-halves_kept Both depth test parts = refl
-length-halves_kept YesAlone depth test parts = refl
-length-halves_kept NoAlone depth test parts = refl
+-- they have fewer nodes than the split
+halves_fewer : (trees : List Tree) (halves : Halves) (depth : ℕ) (test : Test) (look : Look)
+    (parts : List Part) → count_to_come trees (halves_kept halves depth test look parts)
+    ≤ node_count (subtree_at trees look.yes_half) + node_count (subtree_at trees look.no_half)
+    + count_to_come trees parts
+halves_fewer trees Both depth test look parts = omega arith
+halves_fewer trees YesAlone depth test look parts = omega arith
+halves_fewer trees NoAlone depth test look parts = omega arith
 
--- what was wanted is what was found, with a node, and what its parts become
-taken_on : (found front rest wanted other : List TreeNode) → front ++ rest ≡ other
-    → found ++ other ≡ wanted → (found ++ front) ++ rest ≡ wanted
-taken_on found front rest wanted other is all =
-    append_assoc found front rest ∙ ap (λ nodes. found ++ nodes) is ∙ all
+-- ---- the walk
 
--- a leaf of a part that stays takes the walk on
-kept_leaf : (question : Question) (zone_box : ZoneBoxView) (depth : ℕ) (literal : Option Literal)
-    (leaf : Tree) (parts : List Part) (rest : List TreeNode) (trees : List Tree)
-    (found wanted nodes : List TreeNode) → trees_of rest ≡ Some trees
-    → length parts ≡ length trees
-    → ArePartsOf zone_box.sheet (length zone_box.zone) (Kept depth literal ∷ parts)
-    → preorder (retargeted_from zone_box.sheet zone_box.season question
-    (zone_of_part zone_box.zone depth literal) leaf) ≡ nodes
-    → found ++ nodes_to_come zone_box.sheet zone_box.season question zone_box.zone
-    (Kept depth literal ∷ parts)
-    (leaf ∷ trees) ≡ wanted
-    → IsNext question zone_box rest (zone_of_part zone_box.zone depth literal) parts
-    (found ++ nodes) wanted
-kept_leaf question zone_box depth literal leaf parts rest trees found wanted nodes left many are is
-    all =
-    let zone = zone_of_part zone_box.zone depth literal in
-    record {
-      trees = trees;
-      left = left;
-      many = many;
-      parts_of = parts_of-deeper zone_box.sheet depth (length zone) parts
-          (length-zone_of_part zone_box.zone depth literal are.0) are.2;
-      become = taken_on found nodes
-          (nodes_to_come zone_box.sheet zone_box.season question zone parts trees) wanted
-          (nodes_to_come zone_box.sheet zone_box.season question zone_box.zone
-          (Kept depth literal ∷ parts)
-          (leaf ∷ trees))
-          (ap (λ list. list ++ nodes_to_come zone_box.sheet zone_box.season question zone parts
-          trees) (sym
-          is)
-          ∙ ap (λ list. preorder (retargeted_from zone_box.sheet zone_box.season question zone leaf)
-          ++ list)
-          (nodes_to_come-deeper zone_box.sheet zone_box.season question zone zone_box.zone depth
-          parts trees
-          (λ start less. zone_of_part-begins zone_box.zone depth start literal less are.0) are.2))
-          all;
-    }
+-- what the first node of a part makes of it
+record IsStep (question : Question) (trees : List Tree) (zone_box : ZoneBoxView)
+    (zone : List Literal) (tree : Tree) (look : Look) (parts : List Part) : Type 0 where
+  next_of : ArePartsOf zone_box.sheet trees (length zone)
+      (parts_after zone_box.sheet zone_box.season zone look.node look parts)
+  become : nodes_kept zone_box.sheet zone_box.season question zone look.node
+      ++ nodes_to_come zone_box.sheet zone_box.season question trees zone
+      (parts_after zone_box.sheet zone_box.season zone look.node look parts)
+      ≡ preorder (retargeted_from zone_box.sheet zone_box.season question zone tree)
+      ++ nodes_to_come zone_box.sheet zone_box.season question trees zone parts
+  fewer : count_to_come trees
+      (parts_after zone_box.sheet zone_box.season zone look.node look parts)
+      < node_count tree + count_to_come trees parts
 
--- a split of a part that stays takes the walk on
-kept_split : (question : Question) (zone_box : ZoneBoxView) (depth : ℕ) (literal : Option Literal)
-    (test : Test) (fresh : Bool) (yes_half no_half : Tree) (parts : List Part)
-    (rest : List TreeNode) (trees : List Tree) (found wanted : List TreeNode)
-    → trees_of rest ≡ Some (yes_half ∷ no_half ∷ trees) → length parts ≡ length trees
-    → IsTrue (is_test_of zone_box.sheet test)
-    → ArePartsOf zone_box.sheet (length zone_box.zone) (Kept depth literal ∷ parts)
-    → found ++ nodes_to_come zone_box.sheet zone_box.season question zone_box.zone
-    (Kept depth literal ∷ parts)
-    (branch test fresh yes_half no_half ∷ trees) ≡ wanted
-    → IsNext question zone_box rest (zone_of_part zone_box.zone depth literal)
-    (parts_after zone_box.sheet zone_box.season (zone_of_part zone_box.zone depth literal)
-    (Split test fresh)
-    parts)
-    (found ++ nodes_kept zone_box.sheet zone_box.season question
-    (zone_of_part zone_box.zone depth literal)
-    (Split test fresh)) wanted
-kept_split question zone_box depth literal test fresh yes_half no_half parts rest trees found wanted
-    left
-    many of_sheet are all =
-    let zone = zone_of_part zone_box.zone depth literal in
+step : (question : Question) (trees : List Tree) (zone_box : ZoneBoxView) (zone : List Literal)
+    (node : TreeNode) (yes_at no_at : ℕ) (parts : List Part) → yes_at < length trees
+    → no_at < length trees
+    → AreTestsOf zone_box.sheet (tree_over node (subtree_at trees yes_at) (subtree_at trees no_at))
+    → ArePartsOf zone_box.sheet trees (length zone) parts
+    → IsStep question trees zone_box zone
+    (tree_over node (subtree_at trees yes_at) (subtree_at trees no_at))
+    (record { node = node; yes_half = yes_at; no_half = no_at }) parts
+step question trees zone_box zone Open yes_at no_at parts yes_in no_in tests are =
+    record { next_of = are; become = refl; fewer = omega arith }
+step question trees zone_box zone (Lent number) yes_at no_at parts yes_in no_in tests are =
+    record { next_of = are; become = refl; fewer = omega arith }
+step question trees zone_box zone (Refuted reason fresh) yes_at no_at parts yes_in no_in tests are =
+    record { next_of = are; become = refl; fewer = omega arith }
+step question trees zone_box zone (Split test fresh) yes_at no_at parts yes_in no_in tests are =
+    let look : Look = record { node = Split test fresh; yes_half = yes_at; no_half = no_at } in
     let halves = halves_in zone_box.sheet zone_box.season zone test in
-    let more = length-halves_kept halves (length zone) test parts in
+    let of_halves = halves_of_sheet zone_box.sheet test fresh (subtree_at trees yes_at)
+    (subtree_at trees no_at) tests in
+    let of_sheet = first_of_sheet zone_box.sheet (Split test fresh) (subtree_at trees yes_at)
+    (subtree_at trees no_at) tests in
+    let less = halves_fewer trees halves (length zone) test look parts in
     record {
-      trees = yes_half ∷ no_half ∷ trees;
-      left = left;
-      many = more ∙ ap (λ n. suc (suc n)) many;
-      parts_of = halves_of zone_box.sheet halves (length zone) test parts of_sheet
-          (parts_of-deeper zone_box.sheet depth (length zone) parts
-          (length-zone_of_part zone_box.zone depth literal are.0) are.2);
-      become = taken_on found (split_kept halves test)
-          (nodes_to_come zone_box.sheet zone_box.season question zone
-          (halves_kept halves (length zone) test parts) (yes_half ∷ no_half ∷ trees)) wanted
-          (nodes_to_come zone_box.sheet zone_box.season question zone_box.zone
-          (Kept depth literal ∷ parts)
-          (branch test fresh yes_half no_half ∷ trees))
-          (halves_become zone_box.sheet zone_box.season question zone halves test parts yes_half
-          no_half
-          trees
-          ∙ ap (λ list. preorder (retargeted_from zone_box.sheet zone_box.season question zone
-          (branch test fresh yes_half no_half)) ++ list)
-          (nodes_to_come-deeper zone_box.sheet zone_box.season question zone zone_box.zone depth
-          parts trees
-          (λ start less. zone_of_part-begins zone_box.zone depth start literal less are.0) are.2))
-          all;
+      next_of = halves_are zone_box.sheet trees halves (length zone) test look parts of_sheet
+          yes_in no_in of_halves.0 of_halves.1 are;
+      become = halves_become zone_box.sheet zone_box.season question trees zone halves test look
+          parts;
+      fewer = omega arith;
     }
 
--- a node of a part that is dropped takes the walk on: nothing is found
-dropped_leaf : (question : Question) (zone_box : ZoneBoxView) (leaf : Tree) (parts : List Part)
-    (rest : List TreeNode) (trees : List Tree) (found wanted : List TreeNode)
-    → trees_of rest ≡ Some trees → length parts ≡ length trees
-    → ArePartsOf zone_box.sheet (length zone_box.zone) parts
-    → found ++ nodes_to_come zone_box.sheet zone_box.season question zone_box.zone (Dropped ∷ parts)
-    (leaf ∷ trees)
-    ≡ wanted
-    → IsNext question zone_box rest zone_box.zone parts (found ++ []) wanted
-dropped_leaf question zone_box leaf parts rest trees found wanted left many are all = record {
-  trees = trees;
-  left = left;
-  many = many;
-  parts_of = are;
-  become = ap (λ list. list ++ nodes_to_come zone_box.sheet zone_box.season question zone_box.zone
-      parts trees)
-      (append-nil found) ∙ all;
-}
-
-dropped_split : (question : Question) (zone_box : ZoneBoxView) (test : Test) (fresh : Bool)
-    (yes_half no_half : Tree) (parts : List Part) (rest : List TreeNode) (trees : List Tree)
-    (found wanted : List TreeNode) → trees_of rest ≡ Some (yes_half ∷ no_half ∷ trees)
-    → length parts ≡ length trees → ArePartsOf zone_box.sheet (length zone_box.zone) parts
-    → found ++ nodes_to_come zone_box.sheet zone_box.season question zone_box.zone (Dropped ∷ parts)
-    (branch test fresh yes_half no_half ∷ trees) ≡ wanted
-    → IsNext question zone_box rest zone_box.zone (Dropped ∷ Dropped ∷ parts) (found ++ []) wanted
-dropped_split question zone_box test fresh yes_half no_half parts rest trees found wanted left many
-    are
-    all = record {
-      trees = yes_half ∷ no_half ∷ trees;
-      left = left;
-      many = ap (λ n. suc (suc n)) many;
-      parts_of = are;
-      become = ap (λ list. list ++ nodes_to_come zone_box.sheet zone_box.season question
-          zone_box.zone parts trees)
-          (append-nil found) ∙ all;
-    }
-
--- a list of trees stands for the same list
-same_trees : (question : Question) (zone_box : ZoneBoxView) (parts : List Part)
-    (found wanted : List TreeNode) {trees other : List Tree} → other ≡ trees
-    → found ++ nodes_to_come zone_box.sheet zone_box.season question zone_box.zone parts trees ≡
-    wanted
-    → found ++ nodes_to_come zone_box.sheet zone_box.season question zone_box.zone parts other ≡
-    wanted
-same_trees question zone_box parts found wanted same all =
-    ap (λ list. found ++ nodes_to_come zone_box.sheet zone_box.season question zone_box.zone parts
-    list) same ∙ all
-
--- whatever the node and the part are
-next_by_node : (question : Question) (zone_box : ZoneBoxView) (part : Part) (parts : List Part)
-    (node : TreeNode) (rest : List TreeNode) (found wanted : List TreeNode)
-    (read : Option (List Tree)) (trees : List Tree) → trees_of rest ≡ read
-    → with_node node read ≡ Some trees → length (part ∷ parts) ≡ length trees
-    → ArePartsOf zone_box.sheet (length zone_box.zone) (part ∷ parts) → IsNodeOf zone_box.sheet node
-    → found ++ nodes_to_come zone_box.sheet zone_box.season question zone_box.zone (part ∷ parts)
-    trees ≡ wanted
-    → IsNext question zone_box rest (path_after zone_box.zone part)
-    (parts_next zone_box.sheet zone_box.season (path_after zone_box.zone part) part node parts)
-    (found ++ nodes_next zone_box.sheet zone_box.season question (path_after zone_box.zone part)
-    part node) wanted
-next_by_node question zone_box part parts node rest found wanted None trees left is many are
-    of_sheet
-    all = absurd (none-some trees is)
-next_by_node question zone_box Dropped parts Open rest found wanted (Some read) trees left is
-    many are of_sheet all =
-    let same : open_leaf ∷ read ≡ trees = same_Some (open_leaf ∷ read) trees is in
-    let as_many = ap length same in
-    dropped_leaf question zone_box open_leaf parts rest read found wanted left (omega arith) are
-    (same_trees question zone_box (Dropped ∷ parts) found wanted same all)
-next_by_node question zone_box Dropped parts (Lent number) rest found wanted (Some read) trees left
-    is
-    many are of_sheet all =
-    let same : lent_leaf number ∷ read ≡ trees = same_Some (lent_leaf number ∷ read) trees is in
-    let as_many = ap length same in
-    dropped_leaf question zone_box (lent_leaf number) parts rest read found wanted left
-    (omega arith) are
-    (same_trees question zone_box (Dropped ∷ parts) found wanted same all)
-next_by_node question zone_box Dropped parts (Refuted reason fresh) rest found wanted (Some read)
-    trees
-    left is
-    many are of_sheet all =
-    let same : refuted_leaf reason fresh ∷ read ≡ trees = same_Some (refuted_leaf reason fresh ∷
-    read) trees is in
-    let as_many = ap length same in
-    dropped_leaf question zone_box (refuted_leaf reason fresh) parts rest read found wanted left
-    (omega
-    arith) are
-    (same_trees question zone_box (Dropped ∷ parts) found wanted same all)
-next_by_node question zone_box Dropped parts (Split test fresh) rest found wanted (Some []) trees
-    left is
-    many are of_sheet all = absurd (none-some trees is)
-next_by_node question zone_box Dropped parts (Split test fresh) rest found wanted (Some (one ∷ []))
-    trees left is many are of_sheet all = absurd (none-some trees is)
-next_by_node question zone_box Dropped parts (Split test fresh) rest found wanted
-    (Some (yes_half ∷ no_half ∷ read)) trees left is many are of_sheet all =
-    let same : branch test fresh yes_half no_half ∷ read ≡ trees =
-    same_Some (branch test fresh yes_half no_half ∷ read) trees is in
-    let as_many = ap length same in
-    dropped_split question zone_box test fresh yes_half no_half parts rest read found wanted left
-    (omega arith) are (same_trees question zone_box (Dropped ∷ parts) found wanted same all)
-next_by_node question zone_box (Kept depth literal) parts Open rest found wanted (Some read)
-    trees left is many are of_sheet all =
-    let same : open_leaf ∷ read ≡ trees = same_Some (open_leaf ∷ read) trees is in
-    let as_many = ap length same in
-    kept_leaf question zone_box depth literal open_leaf parts rest read found wanted _ left
-    (omega arith) are refl (same_trees question zone_box (Kept depth literal ∷ parts) found wanted
-    same
-    all)
-next_by_node question zone_box (Kept depth literal) parts (Lent number) rest found wanted
-    (Some read)
-    trees left is many are of_sheet all =
-    let same : lent_leaf number ∷ read ≡ trees = same_Some (lent_leaf number ∷ read) trees is in
-    let as_many = ap length same in
-    kept_leaf question zone_box depth literal (lent_leaf number) parts rest read found wanted _ left
-    (omega arith) are refl (same_trees question zone_box (Kept depth literal ∷ parts) found wanted
-    same
-    all)
-next_by_node question zone_box (Kept depth literal) parts (Refuted reason fresh) rest found wanted
-    (Some
-    read)
-    trees left is many are of_sheet all =
-    let same : refuted_leaf reason fresh ∷ read ≡ trees = same_Some (refuted_leaf reason fresh ∷
-    read) trees is in
-    let as_many = ap length same in
-    kept_leaf question zone_box depth literal (refuted_leaf reason fresh) parts rest read found
-    wanted _
-    left
-    (omega arith) are refl (same_trees question zone_box (Kept depth literal ∷ parts) found wanted
-    same
-    all)
-next_by_node question zone_box (Kept depth literal) parts (Split test fresh) rest found wanted
-    (Some [])
-    trees left is many are of_sheet all = absurd (none-some trees is)
-next_by_node question zone_box (Kept depth literal) parts (Split test fresh) rest found wanted
-    (Some (one ∷ [])) trees left is many are of_sheet all = absurd (none-some trees is)
-next_by_node question zone_box (Kept depth literal) parts (Split test fresh) rest found wanted
-    (Some (yes_half ∷ no_half ∷ read)) trees left is many are of_sheet all =
-    let same : branch test fresh yes_half no_half ∷ read ≡ trees =
-    same_Some (branch test fresh yes_half no_half ∷ read) trees is in
-    let as_many = ap length same in
-    kept_split question zone_box depth literal test fresh yes_half no_half parts rest read found
-    wanted
-    left (omega arith) of_sheet are (same_trees question zone_box (Kept depth literal ∷ parts) found
-    wanted same all)
-
--- the walk goes on after the node, with the way that the part leads to
-pub walk_next : (question : Question) (zone_box : ZoneBoxView) (part : Part) (parts : List Part)
-    (node : TreeNode) (rest : List TreeNode) (found wanted : List TreeNode)
-    → IsWalk question zone_box (node ∷ rest) (part ∷ parts) found wanted
-    → IsNodeOf zone_box.sheet node
-    → IsWalk question (record zone_box { zone = path_after zone_box.zone part }) rest
-    (parts_next zone_box.sheet zone_box.season (path_after zone_box.zone part) part node parts)
-    (found ++ nodes_next zone_box.sheet zone_box.season question (path_after zone_box.zone part)
-    part node) wanted
-walk_next question zone_box part parts node rest found wanted walk of_sheet =
-    let next = next_by_node question zone_box part parts node rest found wanted (trees_of rest)
-    walk.trees refl walk.left walk.many walk.parts_of of_sheet walk.become in
-    record {
-      trees = next.trees;
-      left = next.left;
-      many = next.many;
-      parts_of = next.parts_of;
-      become = next.become;
-    }
+-- the walk goes on after the first node of the next part, with fewer nodes to come
+pub walk_on : (question : Question) (trees : List Tree) (part : Part) (old new : ZoneBoxView)
+    (parts next : List Part) (found more wanted : List TreeNode)
+    → IsWalk question trees old (part ∷ parts) found wanted
+    → TakesPart question trees part old new parts next found more
+    → IsWalk question trees new next more wanted
+    × (count_to_come trees next < count_to_come trees (part ∷ parts))
+walk_on question trees part old new parts next found more wanted walk taken =
+    let zone = zone_of_part old.zone part.depth part.literal in
+    let first = walk.parts_of.0 in
+    let tests = subst (AreTestsOf old.sheet) taken.seen first.tests in
+    let are = parts_of-deeper old.sheet trees part.depth (length zone) parts
+    (length-zone_of_part old.zone part.depth part.literal first.no_deeper) walk.parts_of.1 in
+    let made = step question trees old zone taken.look.node taken.look.yes_half taken.look.no_half
+    parts taken.yes_half taken.no_half tests are in
+    let less = made.fewer in
+    let count = ap node_count taken.seen in
+    let after = ap (count_to_come trees) taken.next_is in
+    let kept = nodes_kept old.sheet old.season question zone taken.look.node in
+    let to_come = nodes_to_come old.sheet old.season question trees zone
+    (parts_after old.sheet old.season zone taken.look.node taken.look parts) in (
+      rw (taken.box_is, taken.next_is, taken.more_is) (record {
+        parts_of = made.next_of;
+        become = append_assoc found kept to_come
+            ∙ ap (λ nodes. found ++ nodes) (made.become
+            ∙ ap (λ tree. preorder (retargeted_from old.sheet old.season question zone tree)
+            ++ nodes_to_come old.sheet old.season question trees zone parts) (sym taken.seen)
+            ∙ ap (λ rest. preorder (retargeted_from old.sheet old.season question zone
+            (subtree_at trees part.at)) ++ rest)
+            (nodes_to_come-deeper old.sheet old.season question trees zone old.zone part.depth
+            parts (λ start less. zone_of_part-begins old.zone part.depth start part.literal less
+            first.no_deeper) walk.parts_of.1))
+            ∙ walk.become;
+      }),
+      omega arith,
+    )
 
 -- it begins with the whole tree, at the root
-pub walk_start : (question : Question) (sheet : Sheet) (season : Results) (tree : Tree)
-    → IsWalk question (record { sheet = sheet; season = season; zone = [] }) (preorder tree)
-    (Kept 0 None ∷ []) [] (preorder (retargeted_from sheet season question [] tree))
-walk_start question sheet season tree = record {
-  trees = tree ∷ [];
-  left = ap trees_of (sym (append-nil (preorder tree))) ∙ trees_of-preorder tree [];
-  many = refl;
-  parts_of = (omega arith, tt, tt);
-  become = append-nil (preorder (retargeted_from sheet season question [] tree));
+pub walk_starts : (question : Question) (trees : List Tree) (zone_box : ZoneBoxView) (tree : Tree)
+    → zone_box.zone ≡ [] → 0 < length trees → subtree_at trees 0 ≡ tree
+    → AreTestsOf zone_box.sheet tree
+    → IsWalk question trees zone_box (part_alone 0 0 ∷ []) []
+    (preorder (retargeted_from zone_box.sheet zone_box.season question [] tree))
+walk_starts question trees zone_box tree root some is tests = record {
+  parts_of = (
+    record {
+      within = some;
+      no_deeper = omega arith;
+      literal = tt;
+      tests = rw is tests;
+    },
+    tt,
+  );
+  become = append-nil (preorder (retargeted_from zone_box.sheet zone_box.season question
+      (take 0 zone_box.zone) (subtree_at trees 0)))
+      ∙ ap (λ one. preorder (retargeted_from zone_box.sheet zone_box.season question [] one)) is;
 }
 
--- the same of what was made at the start
-pub walk_started : (question : Question) (sheet : Sheet) (season : Results) (tree : Tree)
-    (zone_box : ZoneBoxView) (nodes : List TreeNode) (parts : List Part) (found : List TreeNode)
-    → zone_box ≡ record { sheet = sheet; season = season; zone = [] } → nodes ≡ preorder tree
-    → parts ≡ Kept 0 None ∷ [] → found ≡ []
-    → IsWalk question zone_box nodes parts found
-    (preorder (retargeted_from sheet season question [] tree))
-walk_started question sheet season tree zone_box nodes parts found way_is nodes_are parts_are none =
-    rw (way_is, nodes_are, parts_are, none) (walk_start question sheet season tree)
-
--- the part on top of the stack is the next one
-pub walk_top : (question : Question) (zone_box : ZoneBoxView) (nodes : List TreeNode)
-    (stack rest : List Part) (part : Part) (found wanted : List TreeNode)
-    → IsWalk question zone_box nodes (reverse stack) found wanted → stack ≡ rest ++ part ∷ []
-    → IsWalk question zone_box nodes (part ∷ reverse rest) found wanted
-walk_top question zone_box nodes stack rest part found wanted walk taken =
-    subst (λ (parts : List Part). IsWalk question zone_box nodes parts found wanted)
-    (ap reverse taken ∙ reverse-append rest (part ∷ [])) walk
-
--- and the walk goes on with what stands in the list for the node
-pub walk_on : (question : Question) (zone_box after : ZoneBoxView) (nodes : List TreeNode) (at : ℕ)
-    (node : TreeNode) (stack rest next : List Part) (part : Part)
-    (found more wanted : List TreeNode)
-    → IsWalk question zone_box (drop at nodes) (reverse stack) found wanted
-    → stack ≡ rest ++ part ∷ [] → at < length nodes → node ≡ get_or nodes at node
-    → IsNodeOf zone_box.sheet node
-    → after ≡ record zone_box { zone = path_after zone_box.zone part }
-    → reverse next ≡ parts_next zone_box.sheet zone_box.season (path_after zone_box.zone part) part
-    node
-    (reverse rest)
-    → more ≡ found ++ nodes_next zone_box.sheet zone_box.season question
-    (path_after zone_box.zone part) part node
-    → IsWalk question after (drop (at + 1) nodes) (reverse next) more wanted
-walk_on question zone_box after nodes at node stack rest next part found more wanted walk taken
-    within
-    is of_sheet after_is next_is more_is =
-    let top = walk_top question zone_box (drop at nodes) stack rest part found wanted walk taken in
-    let split : drop at nodes ≡ node ∷ drop (at + 1) nodes =
-    drop-cons nodes at node within
-    ∙ ap (λ n. get_or nodes at node ∷ drop n nodes) (sym (add-one at))
-    ∙ ap (λ first. first ∷ drop (at + 1) nodes) (sym is) in
-    let begun = subst (λ (list : List TreeNode). IsWalk question zone_box list (part ∷ reverse rest)
-    found wanted) split top in
-    rw (after_is, next_is, more_is)
-    (walk_next question zone_box part (reverse rest) node (drop (at + 1) nodes) found wanted begun
-    of_sheet)
-
--- a part on the stack has a node in the list
-pub walk_within : (question : Question) (zone_box : ZoneBoxView) (nodes : List TreeNode) (at : ℕ)
-    (stack rest : List Part) (part : Part) (found wanted : List TreeNode)
-    → IsWalk question zone_box (drop at nodes) (reverse stack) found wanted
-    → stack ≡ rest ++ part ∷ [] → at < length nodes
-walk_within question zone_box nodes at stack rest part found wanted walk taken =
-    let top = walk_top question zone_box (drop at nodes) stack rest part found wanted walk taken in
-    let some = walk_some question zone_box (drop at nodes) part (reverse rest) found wanted top in
-    omega (arith, length-drop at nodes)
+-- the part that comes next is the first of them
+pub walk_first : (question : Question) (trees : List Tree) (zone_box : ZoneBoxView)
+    (next : Option Part) (parts : List Part) (part : Part) (found wanted : List TreeNode)
+    → IsWalk question trees zone_box (from_next next parts) found wanted → next ≡ Some part
+    → IsWalk question trees zone_box (part ∷ parts) found wanted
+walk_first question trees zone_box next parts part found wanted walk is =
+    subst (λ (one : Option Part). IsWalk question trees zone_box (from_next one parts) found
+    wanted) is walk

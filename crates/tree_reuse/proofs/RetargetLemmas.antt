@@ -2,9 +2,9 @@
 -- there.
 use Rattle.std.proofs.Common.{◌++◌, ◌≡◌, ℕ, ◌+◌, ◌<◌, ◌≤◌, Bool, true, false, ◌&&◌, ◌||◌, ◌==◌, not}
 use Rattle.std.proofs.Common.{nat_le}
-use Rattle.std.proofs.Common.{None, nat_lt, List, [], length, cond, refl, sym, ap, ◌∙◌, arith}
+use Rattle.std.proofs.Common.{nat_lt, List, [], length, cond, refl, sym, ap, ◌∙◌, arith}
 use Rattle.std.proofs.lemmas.Bool.{and_parts, and_from, leb-true, le-leb}
-use Rattle.std.proofs.lemmas.Option.{none-some}
+use Rattle.std.specs.Prelude.{is_some, IsTrue}
 use Rattle.std.proofs.lemmas.List.Elements.{All-nil, All-cons, All-append}
 use Rattle.league_core.specs.declared.sheet.Sheet.{Sheet}
 use Rattle.league_core.specs.declared.question.Question.{Question}
@@ -414,7 +414,6 @@ retargeted-few sheet season question tree kept found is few same =
 -- it is that of a tree
 pub retargeted-read : (sheet : Sheet) (season : Results) (question : Question) (tree : Tree)
     (found : List TreeNode) → found ≡ preorder (retargeted_from sheet season question [] tree)
-    → tree_of found ≡ None → ⊥
-retargeted-read sheet season question tree found is none =
-    let new = retargeted_from sheet season question [] tree in
-    none-some new (sym none ∙ ap tree_of is ∙ tree_of-preorder new)
+    → IsTrue (is_some (tree_of found))
+retargeted-read sheet season question tree found is =
+    ap is_some (ap tree_of is ∙ tree_of-preorder (retargeted_from sheet season question [] tree))

@@ -1,19 +1,16 @@
-//! A tree's list of nodes, carried over to another season one node after the other.
+//! A tree, carried over to another season one node after the other.
 
 ghost use Rattle.std.specs.Prelude.{◌≡◌, ◌<◌, ◌≤◌, IsTrue, [], ◌∷◌, ◌++◌, length, reverse, IfOk};
-ghost use Rattle.std.specs.Prelude.{OnOk, Some};
+ghost use Rattle.std.specs.Prelude.{OnOk};
 ghost use Rattle.league_core.specs.search.Zones.{is_test_of};
 ghost use Rattle.league_core.specs.search.Reasons.{has_reason};
 ghost use Rattle.league_core.specs.search.Trees.{preorder};
-ghost use Rattle.tree_reuse.specs.declared.carry.Part.TheVariants.{Kept};
 ghost use Rattle.tree_reuse.specs.Retargets.{halves_in, leaf_kept, retargeted_from};
-ghost use Rattle.tree_reuse.specs.inside.Carrying.{path_after, halves_kept};
-ghost use Rattle.tree_arena.specs.inside.Steps.{literal_of, zone_of_part};
-ghost use Rattle.tree_reuse.specs.inside.Carrying.{parts_after, parts_dropped, parts_next};
-ghost use Rattle.tree_reuse.specs.inside.Carrying.{split_kept, nodes_kept, nodes_next, IsLiteralOf};
-ghost use Rattle.tree_arena.specs.inside.Calls.{IsNodeOf};
-ghost use Rattle.tree_reuse.specs.inside.Carrying.{ArePartsOf};
-ghost use Rattle.tree_arena.specs.inside.Calls.{AreTestsOf};
+ghost use Rattle.tree_arena.specs.inside.Steps.{from_next, zone_of_part};
+ghost use Rattle.tree_arena.specs.inside.Calls.{AreTestsOf, IsNodeOf};
+ghost use Rattle.tree_reuse.specs.inside.Carrying.{half_part, part_alone, halves_kept, split_kept};
+ghost use Rattle.tree_reuse.specs.inside.Carrying.{parts_after, nodes_kept, IsLiteralOf};
+ghost use Rattle.tree_reuse.specs.inside.Carrying.{IsPartBelow, TakesPart};
 
 use crate::box_moves::back_to;
 use crate::halves::Halves;
@@ -21,18 +18,15 @@ use league_core::{Literal, OutOfMemory, Question, Reason, Test, TreeNode};
 use score_box::ZoneBox;
 use std::alloc::Global;
 use tie_bound::holds;
-use tree_arena::Tree;
+use tree_arena::{Look, Subtrees, Tree};
 
-/// A part of the tree that is still to come, next on the list of nodes.
+/// A part of the tree that is still to come: the number of its first node, in the zone of so many
+/// literals of the way and one more, if there is one.
 #[derive(Clone, Copy)]
-pub enum Part {
-    /// Goes with its split.
-    Dropped,
-    /// Stays, in the zone of so many literals of the way and one more, if there is one.
-    Kept {
-        depth: usize,
-        literal: Option<Literal>,
-    },
+pub struct Part {
+    pub at: u32,
+    pub depth: usize,
+    pub literal: Option<Literal>,
 }
 
 // Which halves a split keeps here.
@@ -53,67 +47,62 @@ fn halves(zone_box: &ZoneBox, test: Test) -> Halves
     }
 }
 
-// The parts of a split's halves come next, the yes half first.
-fn push_halves(
-    parts: &mut Vec<Part>,
+// The yes half of a split comes next, and its no half waits.
+fn keep_halves(
     halves: Halves,
     depth: usize,
     test: Test,
-) -> Result<(), OutOfMemory>
-    ensures { IfOk result
-        (λ _. reverse parts.new.items ≡ halves_kept halves depth test (reverse parts.old.items)) }
+    look: &Look,
+    parts: &mut Vec<Part>,
+) -> Result<Option<Part>, OutOfMemory>
+    ensures { IfOk result (λ next. from_next next (reverse parts.new.items)
+        ≡ halves_kept halves depth test look.now (reverse parts.old.items)) }
+{
+    let (yes_half, no_half) = (look.yes_half, look.no_half);
+    Ok(Some(match halves {
+        Halves::Both => {
+            parts.push(half(no_half, depth, test, false))?;
+            half(yes_half, depth, test, true)
+        }
+        Halves::YesAlone => alone(yes_half, depth),
+        Halves::NoAlone => alone(no_half, depth),
+    }))
+}
+
+fn half(at: u32, depth: usize, test: Test, yes: bool) -> Part
+    ensures { result ≡ half_part at depth test yes }
+{
+    let literal = Some(Literal { test, yes });
+    Part { at, depth, literal }
+}
+
+fn alone(at: u32, depth: usize) -> Part
+    ensures { result ≡ part_alone at depth }
 {
     let literal = None;
-    let (yes, no) = match halves {
-        Halves::Both => (kept_half(depth, test, true), kept_half(depth, test, false)),
-        Halves::YesAlone => (Part::Kept { depth, literal }, Part::Dropped),
-        Halves::NoAlone => (Part::Dropped, Part::Kept { depth, literal }),
-    };
-    parts.push(no)?;
-    parts.push(yes)?;
-    Ok(())
-}
-
-fn kept_half(depth: usize, test: Test, yes: bool) -> Part
-    ensures { result ≡ Kept depth (Some (literal_of test yes)) }
-{
-    Part::Kept {
-        depth,
-        literal: Some(Literal { test, yes }),
-    }
-}
-
-fn drop_node(node: TreeNode, parts: &mut Vec<Part>) -> Result<(), OutOfMemory>
-    ensures { IfOk result
-        (λ _. reverse parts.new.items ≡ parts_dropped node (reverse parts.old.items)) }
-{
-    if let TreeNode::Split { .. } = node {
-        parts.push(Part::Dropped)?;
-        parts.push(Part::Dropped)?;
-    }
-    Ok(())
+    Part { at, depth, literal }
 }
 
 fn keep_split(
     zone_box: &ZoneBox,
     test: Test,
+    look: &Look,
     parts: &mut Vec<Part>,
     found: &mut Vec<TreeNode>,
-) -> Result<(), OutOfMemory>
+) -> Result<Option<Part>, OutOfMemory>
     requires { IsTrue (is_test_of zone_box.now.sheet test) }
-    ensures parts { IfOk result (λ _. reverse parts.new.items
+    ensures parts { IfOk result (λ next. from_next next (reverse parts.new.items)
         ≡ halves_kept (halves_in zone_box.now.sheet zone_box.now.season zone_box.now.zone test)
-        (length zone_box.now.zone) test (reverse parts.old.items)) }
+        (length zone_box.now.zone) test look.now (reverse parts.old.items)) }
     ensures found { IfOk result (λ _. found.new.items ≡ found.old.items
         ++ split_kept (halves_in zone_box.now.sheet zone_box.now.season zone_box.now.zone test)
         test) }
 {
     let halves = halves(zone_box, test);
-    push_halves(parts, halves, zone_box.zone().len(), test)?;
     if let Halves::Both = halves {
         found.push(TreeNode::Split { test, fresh: false })?;
     }
-    Ok(())
+    keep_halves(halves, zone_box.zone().len(), test, look, parts)
 }
 
 fn keep_leaf(
@@ -143,71 +132,59 @@ fn keep_leaf(
 fn keep_node(
     zone_box: &ZoneBox,
     question: &Question,
-    node: TreeNode,
+    look: &Look,
     parts: &mut Vec<Part>,
     found: &mut Vec<TreeNode>,
-) -> Result<(), OutOfMemory>
+) -> Result<Option<Part>, OutOfMemory>
     requires club { question.now.club < length zone_box.now.sheet.clubs }
-    requires node { IsNodeOf zone_box.now.sheet node }
-    ensures parts { IfOk result (λ _. reverse parts.new.items
-        ≡ parts_after zone_box.now.sheet zone_box.now.season zone_box.now.zone node
+    requires node { IsNodeOf zone_box.now.sheet look.now.node }
+    ensures parts { IfOk result (λ next. from_next next (reverse parts.new.items)
+        ≡ parts_after zone_box.now.sheet zone_box.now.season zone_box.now.zone look.now.node
+        look.now
         (reverse parts.old.items)) }
     ensures found { IfOk result (λ _. found.new.items ≡ found.old.items
-        ++ nodes_kept zone_box.now.sheet zone_box.now.season question.now zone_box.now.zone node) }
+        ++ nodes_kept zone_box.now.sheet zone_box.now.season question.now zone_box.now.zone
+        look.now.node) }
 {
-    match node {
-        TreeNode::Open | TreeNode::Lent(_) => {
-            found.push(TreeNode::Open)?;
-            Ok(())
-        }
-        TreeNode::Refuted { reason, .. } => keep_leaf(zone_box, question, reason, found),
-        TreeNode::Split { test, .. } => keep_split(zone_box, test, parts, found),
+    match look.node {
+        TreeNode::Open | TreeNode::Lent(_) => found.push(TreeNode::Open)?,
+        TreeNode::Refuted { reason, .. } => keep_leaf(zone_box, question, reason, found)?,
+        TreeNode::Split { test, .. } => return keep_split(zone_box, test, look, parts, found),
     }
+    Ok(parts.pop())
 }
 
-fn go_to(zone_box: &mut ZoneBox, depth: usize, literal: Option<Literal>) -> Result<(), OutOfMemory>
-    requires depth { depth ≤ length zone_box.old.zone }
-    requires literal { IsLiteralOf zone_box.old.sheet literal }
-    ensures { IfOk result
-        (λ _. zone_box.new ≡ record zone_box.old
-        { zone = zone_of_part zone_box.old.zone depth literal }) }
+fn go_to(zone_box: &mut ZoneBox, part: Part) -> Result<(), OutOfMemory>
+    requires depth { part.depth ≤ length zone_box.old.zone }
+    requires literal { IsLiteralOf zone_box.old.sheet part.literal }
+    ensures { IfOk result (λ _. zone_box.new ≡ record zone_box.old
+        { zone = zone_of_part zone_box.old.zone part.depth part.literal }) }
 {
-    back_to(zone_box, depth);
-    if let Some(literal) = literal {
+    back_to(zone_box, part.depth);
+    if let Some(literal) = part.literal {
         zone_box.cut(literal)?;
     }
     Ok(())
 }
 
+// Takes the first node of a part, and answers the part that comes next.
 fn take_part(
     zone_box: &mut ZoneBox,
     question: &Question,
+    subtrees: &Subtrees,
     part: Part,
-    node: TreeNode,
     parts: &mut Vec<Part>,
     found: &mut Vec<TreeNode>,
-) -> Result<(), OutOfMemory>
+) -> Result<Option<Part>, OutOfMemory>
     requires club { question.now.club < length zone_box.old.sheet.clubs }
-    requires node { IsNodeOf zone_box.old.sheet node }
-    requires part { ArePartsOf zone_box.old.sheet (length zone_box.old.zone) (part ∷ []) }
-    ensures zone_box { IfOk result
-        (λ _. zone_box.new ≡ record zone_box.old { zone = path_after zone_box.old.zone part }) }
-    ensures parts { IfOk result (λ _. reverse parts.new.items
-        ≡ parts_next zone_box.old.sheet zone_box.old.season (path_after zone_box.old.zone part) part
-        node
-        (reverse parts.old.items)) }
-    ensures found { IfOk result (λ _. found.new.items ≡ found.old.items
-        ++ nodes_next zone_box.old.sheet zone_box.old.season question.now
-        (path_after zone_box.old.zone part) part
-        node) }
+    requires part { IsPartBelow zone_box.old.sheet subtrees.now (length zone_box.old.zone) part }
+    ensures { IfOk result (λ next. TakesPart question.now subtrees.now part zone_box.old
+        zone_box.new (reverse parts.old.items) (from_next next (reverse parts.new.items))
+        found.old.items found.new.items) }
 {
-    match part {
-        Part::Dropped => drop_node(node, parts),
-        Part::Kept { depth, literal } => {
-            go_to(zone_box, depth, literal)?;
-            keep_node(zone_box, question, node, parts, found)
-        }
-    }
+    go_to(zone_box, part)?;
+    let look = subtrees.look(part.at);
+    keep_node(zone_box, question, &look, parts, found)
 }
 
 /// The list of what the season of the box leaves of a tree, whatever its length. One look at each
@@ -226,15 +203,12 @@ pub fn carry(
         tree.now)) }
     ensures same { OnOk result (zone_box.new ≡ zone_box.old) }
 {
-    let nodes = tree.nodes()?;
+    let subtrees = tree.subtrees();
     let mut parts = Vec::new(alloc);
-    let literal = None;
-    parts.push(Part::Kept { depth: 0, literal })?;
-    let mut found = Vec::with_capacity(alloc, nodes.len())?;
-    let mut at = 0;
-    while let Some(part) = parts.pop() {
-        take_part(zone_box, question, part, nodes[at], &mut parts, &mut found)?;
-        at += 1;
+    let mut found = Vec::with_capacity(alloc, tree.node_count())?;
+    let mut next = Some(alone(0, 0));
+    while let Some(part) = next {
+        next = take_part(zone_box, question, &subtrees, part, &mut parts, &mut found)?;
     }
     back_to(zone_box, 0);
     Ok(found)

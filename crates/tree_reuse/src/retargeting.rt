@@ -11,7 +11,7 @@ use crate::halves::MOST_KEPT;
 use league_core::{OutOfMemory, Question, Season, Sheet};
 use score_box::{Played, ZoneBox};
 use std::alloc::Global;
-use tree_arena::{Tree, TreeStop};
+use tree_arena::Tree;
 
 /// What the season leaves of a tree: refuted leaves whose reasons still hold, and the splits above
 /// them; a tree of more than 100,001 nodes is one open leaf. One look at each node; for a tree that
@@ -73,9 +73,5 @@ pub fn retarget_by(
     if found.len() > MOST_KEPT as usize {
         return Tree::root(alloc);
     }
-    match Tree::of_nodes(alloc, found) {
-        Ok(kept) => Ok(kept),
-        Err(TreeStop::NoTree(_)) => unreachable!(),
-        Err(TreeStop::OutOfMemory) => Err(OutOfMemory),
-    }
+    Tree::of_preorder(alloc, found.as_slice())
 }

@@ -1,15 +1,19 @@
 -- Lines by their own texts, after the name that each begins with: what is read of them without a
 -- reader of JSON.
-use Rattle.std.specs.Prelude.{◌≡◌, ◌≤◌, ℕ, List, [], ◌∷◌, ◌++◌, Some, codes, decimal, IsTrue}
+use Rattle.std.specs.Prelude.{◌≡◌, ◌≤◌, ℕ, Bool, true, false, List, [], ◌∷◌, ◌++◌, Some, codes}
+use Rattle.std.specs.Prelude.{decimal, IsTrue}
 use Rattle.std.specs.List.{list_all}
 use Rattle.league_core.specs.declared.club_set.ClubSet.{ClubSet}
 use Rattle.league_core.specs.declared.zone.Test.{Test}
 use Rattle.league_core.specs.declared.zone.Reason.{Reason}
+use Rattle.league_core.specs.declared.tree.TreeNode.{TreeNode}
+use Rattle.league_core.specs.declared.tree.TreeNode.TheVariants.{Split, Open, Lent, Refuted}
 use Rattle.league_core.specs.game.Limits.{most_clubs}
 use Rattle.cert_text.specs.declared.proof_line.ProofLine.TheVariants as line
 use Rattle.cert_text.specs.Lines.{Part, clubs, part_text, test_parts}
 use Rattle.cert_text.specs.Ranges.{is_one_of, is_test_below}
 use Rattle.cert_text.specs.Places.{set_listed}
+use Rattle.cert_text.specs.TreeLines.{marked_line}
 use Rattle.cert_text.specs.Forms.{line_in}
 
 -- the text of an array that begins with this name
@@ -44,6 +48,22 @@ IsSetAtEnd text set =
 abbrev pub IsTestAtEnd : ℕ → ℕ → List ℕ → Test → Type 0
 IsTestAtEnd fixtures club_count text test =
     IsTrue (is_test_below fixtures club_count test) × (text ≡ text_of_rest (test_parts test))
+
+-- what comes before the name of a node's line: a mark, if the node is new
+abbrev pub node_begun : Bool → List ℕ → List ℕ
+node_begun true text = 91 ∷ 34 ∷ (codes "new_" ++ text)
+node_begun false text = 91 ∷ 34 ∷ text
+
+-- the text of an array that begins with this name of a node, new or not
+abbrev pub node_named : Bool → List ℕ → List ℕ → List ℕ
+node_named fresh name behind = node_begun fresh (name ++ 34 ∷ behind)
+
+-- the text is read as the line of this node, which no worker holds
+abbrev pub IsLineOfNode : List ℕ → TreeNode → Type 0
+IsLineOfNode text (Split test fresh) = line_in text ≡ Some (marked_line (Split test fresh))
+IsLineOfNode text Open = line_in text ≡ Some line.OpenLeaf
+IsLineOfNode text (Lent number) = ⊥
+IsLineOfNode text (Refuted reason fresh) = line_in text ≡ Some (marked_line (Refuted reason fresh))
 
 -- after the name of a leaf it makes the line of this reason, new or not
 pub record IsReasonAtEnd (text : List ℕ) (reason : Reason) : Type 0 where

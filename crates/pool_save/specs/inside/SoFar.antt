@@ -11,8 +11,8 @@ use Rattle.league_core.specs.game.Sums.{has_club}
 use Rattle.league_core.specs.search.Zones.{is_marked}
 use Rattle.league_core.specs.search.Trees.{Tree, NodesMeet, preorder}
 use Rattle.league_core.specs.search.TreeLists.{preorders}
-use Rattle.pool_save.specs.declared.so_far.Taken.{Taken}
-use Rattle.pool_save.specs.declared.so_far.Taken.TheVariants.{On, Whole, Bad}
+use Rattle.pool_save.specs.declared.taken.Taken.{Taken}
+use Rattle.pool_save.specs.declared.taken.Taken.TheVariants.{On, Whole, Bad}
 use Rattle.pool_save.specs.SavedTexts.{IsSavedNode, IsSavedTree, AreFirstTreesOf}
 use Rattle.pool_save.specs.SavedReadings.{SaveState, SaveStep, goes_on, whole, bad}
 

@@ -16,6 +16,11 @@ use Rattle.port_core.specs.Lines.{HasNoLineFeed, line_feed, line_limit}
 abbrev pub part : ℕ → ℕ → List ℕ → List ℕ
 part from to bytes = drop from (take to bytes)
 
+-- what a buffer has: the bytes read and not yet passed, and the text last given
+pub record BufferView : Type 0 where
+  pub held : List ℕ
+  pub text : List ℕ
+
 -- what one read adds to the bytes in hand, and what it takes from the source
 abbrev pub Fills : Option (List ℕ) → Option (List ℕ) → (List ℕ → Type 0) → Got → List ℕ → List ℕ
     → Type 0

@@ -1,6 +1,6 @@
 -- What a call for the next content returns, and what the reader has in hand then; and the same of
 -- each line that such a call passes on its way.
-use Rattle.std.specs.Prelude.{◌≡◌, ℕ, ◌+◌, ◌-◌, ◌<◌, ◌≤◌, Bool, false, not, ◌==◌, ◌⊎◌, nat_le}
+use Rattle.std.specs.Prelude.{◌≡◌, ℕ, ◌+◌, ◌-◌, ◌<◌, ◌≤◌, Bool, false, ◌==◌, ◌⊎◌, nat_le}
 use Rattle.std.specs.Prelude.{MatchBool, List, [], ◌∷◌, ◌++◌, length, take, drop, Option}
 use Rattle.std.specs.Prelude.{Some, None, option_map, IfSome, Result, Ok, Err, if◌then◌else◌}
 use Rattle.std.specs.Io.KnownBytes.{prepend_known, IsAtEnd}
@@ -136,13 +136,6 @@ StaysStopped old new result =
     (stop : ReadStop) → HasStop old stop → (result ≡ Err stop) × (new ≡ old)
 
 -- ---- one line
-
--- the content of a text is kept if it is given
-abbrev pub KeepsContent : LineReaderView → LineReaderView → List ℕ → Bool → Type 0
-KeepsContent old new text given =
-    let skipped = is_skipped (content_at old.position text) in
-    (given ≡ not skipped)
-    × (new ≡ record old { text = if skipped then old.text else content_at old.position text })
 
 -- the text of the line that is due ends at one position among the bytes in hand, and its bytes at
 -- another; its content is given, or the line is passed over

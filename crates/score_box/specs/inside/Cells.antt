@@ -69,6 +69,14 @@ pub record IsExactCell (cell : Cell) : Type 0 where
   pub draw : HasPassing cell is_draw cell.draw
   pub away_win : HasPassing cell is_away_win cell.away_win
 
+-- the cell with those of its outcomes alone for which this is true
+abbrev pub with_outcomes : Bool → Bool → Bool → Cell → Cell
+with_outcomes home_win draw away_win cell = record cell {
+  home_win = home_win && cell.home_win;
+  draw = draw && cell.draw;
+  away_win = away_win && cell.away_win;
+}
+
 -- all four ends are at the goals of this score
 pub record IsAt (score : Score) (goals : ScoreRange) : Type 0 where
   pub home_least : goals.home_least ≡ score.home

@@ -17,6 +17,7 @@ use Rattle.score_box.specs.inside.Cells.{IsCellOf, IsExactCell}
 use Rattle.score_box.specs.inside.ZoneBoxViews.{ZoneBoxView}
 use Rattle.score_box.specs.inside.Unplayed.{unplayed_in}
 use Rattle.score_box.specs.inside.Boxes.{AreCellsOf, IsSetOf}
+use Rattle.score_box.specs.inside.OpenSides.{AreSidesOf}
 use Rattle.score_box.specs.inside.Ends.{AreEnds}
 use Rattle.score_box.specs.declared.totals.Totals.{Totals}
 use Rattle.score_box.specs.inside.Totals.{AreTables}
@@ -28,11 +29,12 @@ pub record PlayedView : Type 0 where
 
 -- what the tables of a stage keep: the cells before any literal, what is not played, the ends, and
 -- the rows of what was played
-pub record ArePlayed (stage : PlayedView) (cells : List Cell) (unplayed : List ℕ) (ends : Ends)
-    (clubs pairs : List Totals) : Type 0 where
+pub record ArePlayed (stage : PlayedView) (cells : List Cell) (unplayed : List ℕ)
+    (sides : List ClubSet) (ends : Ends) (clubs pairs : List Totals) : Type 0 where
   pub league : IsLeague stage.sheet stage.season
   pub options : AreCellsOf cells (options_in stage.sheet stage.season [])
   pub open_fixtures : unplayed ≡ unplayed_in stage.season.scores
+  pub open_sides : AreSidesOf stage.sheet.fixtures unplayed sides
   pub ends_are : AreEnds stage.sheet.fixtures (options_in stage.sheet stage.season []) ends
   pub tables : AreTables stage.sheet.fixtures stage.season.scores clubs pairs
 
@@ -60,10 +62,11 @@ pub record IsTrailOf (limit : ℕ) (scores : List (Option Score)) (zone : List L
 -- what a box keeps: the zone's options as cells, its marks as sets, what stood before each literal,
 -- the ends, and the rows of what was played
 pub record IsBoxOf (setting : ZoneBoxView) (trail : List Undo) (unplayed : List ℕ)
-    (cells : List Cell)
+    (sides : List ClubSet) (cells : List Cell)
     (before after : ClubSet) (ends : Ends) (clubs pairs : List Totals) : Type 0 where
   pub league : IsLeague setting.sheet setting.season
   pub open_fixtures : unplayed ≡ unplayed_in setting.season.scores
+  pub open_sides : AreSidesOf setting.sheet.fixtures unplayed sides
   pub of_zone : IsTrue (is_zone_of setting.sheet setting.zone)
   pub trail_is : IsTrailOf setting.sheet.goal_limit setting.season.scores setting.zone trail
   pub options : AreCellsOf cells (options_in setting.sheet setting.season setting.zone)

@@ -1,10 +1,11 @@
 -- The least and the most points of a box, fixture by fixture and together.
-use Rattle.std.specs.Prelude.{◌≡◌, ℕ, ℤ, ◌*◌, min, max, pos, ◌≤◌, Bool, if◌then◌else◌, List, []}
-use Rattle.std.specs.Prelude.{slice_index_or}
+use Rattle.std.specs.Prelude.{◌≡◌, ℕ, ℤ, ◌*◌, min, max, pos, ◌-ℤ◌, ◌≤◌, Bool, true, false, ◌&&◌}
+use Rattle.std.specs.Prelude.{if◌then◌else◌, List, [], slice_index_or}
 use Rattle.std.specs.List.{list_any}
 use Rattle.league_core.specs.declared.sheet.Fixture.{Fixture}
 use Rattle.league_core.specs.declared.season.Score.{Score}
 use Rattle.league_core.specs.game.Limits.{set_width}
+use Rattle.league_core.specs.game.Sums.{has_club}
 use Rattle.league_core.specs.search.Options.{is_home_win, is_draw, is_away_win}
 use Rattle.league_core.specs.search.PointRanges.{Range, range_of, points_of_sides, points_together}
 use Rattle.league_core.specs.search.PointRanges.{total_of, won_points, drawn_points, lost_points}
@@ -12,6 +13,7 @@ use Rattle.score_box.specs.declared.cell.Cell.{Cell}
 use Rattle.score_box.specs.declared.points.PointRange.{PointRange}
 use Rattle.score_box.specs.declared.points.left.OutcomesLeft.{OutcomesLeft}
 use Rattle.score_box.specs.declared.points.outcomes.MatchPoints.{MatchPoints}
+use Rattle.score_box.specs.declared.points.worth.Worth.{Worth}
 use Rattle.score_box.specs.inside.Cells.{IsCellOf, HasPassing}
 use Rattle.score_box.specs.inside.Boxes.{AreCellsOf}
 
@@ -40,6 +42,11 @@ pub record IsPointsOf (cell : Cell) (home away : Bool) (points : MatchPoints) : 
   pub at_most : points.most ≤ 3
   pub in_order : points.least ≤ points.most
 
+-- what they give to each side alone
+pub record AreWorth (cell : Cell) (worth : Worth) : Type 0 where
+  pub home : IsPointsOf cell true false worth.home
+  pub away : IsPointsOf cell false true worth.away
+
 -- whether it has a home win, a draw, an away win
 pub record AreOutcomesLeft (cell : Cell) (left : OutcomesLeft) : Type 0 where
   pub home_win : HasPassing cell is_home_win left.home_win
@@ -59,11 +66,26 @@ left_to clubs fixtures options number =
     (slice_index_or fixtures number (record { home = 0; away = 0 })))
     (slice_index_or options number [])
 
--- the least and the most match points that the fixtures of some numbers leave a set of clubs
-pub record IsRangeOver (fixtures : List Fixture) (cells : List Cell) (numbers clubs : List ℕ)
+-- what the options of a match come to for both its sides together, beyond what they come to for
+-- each of them alone
+abbrev pub beyond_sides : (Range → ℤ) → List Score → ℤ
+beyond_sides end options =
+    end (range_of (points_of_sides true true) options)
+    -ℤ end (range_of (points_of_sides true false) options)
+    -ℤ end (range_of (points_of_sides false true) options)
+
+-- the match of a number adds that to a set of clubs if both its clubs are of the set
+abbrev pub between_two : (Range → ℤ) → List ℕ → List Fixture → List (List Score) → ℕ → ℤ
+between_two end clubs fixtures options number =
+    let match = slice_index_or fixtures number (record { home = 0; away = 0 }) in
+    if has_club clubs match.home && has_club clubs match.away
+    then beyond_sides end (slice_index_or options number []) else pos 0
+
+-- what the matches of some numbers add to the least and the most points of a set of clubs
+pub record IsBeyondOver (fixtures : List Fixture) (cells : List Cell) (numbers clubs : List ℕ)
     (points : PointRange) : Type 0 where
   pub least : (options : List (List Score)) → AreCellsOf cells options
-      → points.least ≡ total_of (λ number. (left_to clubs fixtures options number).least) numbers
+      → points.least ≡ total_of (between_two (λ range. range.least) clubs fixtures options) numbers
   pub most : (options : List (List Score)) → AreCellsOf cells options
       → points.most
-      ≡ total_of (λ number. (left_to clubs fixtures options number).greatest) numbers
+      ≡ total_of (between_two (λ range. range.greatest) clubs fixtures options) numbers

@@ -1,10 +1,12 @@
 //! Which outcomes a cell has left, looked up once for all that rests on them.
 
-ghost use Rattle.std.specs.Prelude.{◌≡◌, ◌||◌, not};
+ghost use Rattle.std.specs.Prelude.{◌≡◌, ◌||◌, not, true, false, pos, neg_ℤ, ◌≤ℤ◌, List};
+ghost use Rattle.league_core.specs.declared.season.Score.{Score};
 ghost use Rattle.score_box.specs.declared.cell.Cell.{Cell};
-ghost use Rattle.score_box.specs.inside.Cells.{at_most_one};
-ghost use Rattle.score_box.specs.inside.Points.{AreOutcomesLeft, IsPointsOf};
+ghost use Rattle.score_box.specs.inside.Cells.{at_most_one, IsCellOf};
+ghost use Rattle.score_box.specs.inside.Points.{AreOutcomesLeft, IsPointsOf, beyond_sides};
 
+use super::PointRange;
 use super::outcomes::{MatchPoints, least_of, most_of};
 use crate::cell::{Cell, at_most_one};
 
@@ -56,6 +58,26 @@ impl OutcomesLeft {
                 least: least_of(self.home_win, self.draw, self.away_win, home, away),
                 most: most_of(self.home_win, self.draw, self.away_win, home, away),
             }
+        }
+    }
+
+    /// What the cell leaves both sides together, beyond what it leaves each of them alone.
+    pub(crate) fn beyond(self) -> PointRange
+        ensures beyond { (cell : Cell) (options : List Score) → AreOutcomesLeft cell self
+            → IsCellOf cell options
+            → (result.least ≡ beyond_sides (λ range. range.least) options)
+            × (result.most ≡ beyond_sides (λ range. range.greatest) options) }
+        ensures near { (cell : Cell) → AreOutcomesLeft cell self
+            → ((neg_ℤ (pos 6) ≤ℤ result.least) × (result.least ≤ℤ pos 6))
+            × ((neg_ℤ (pos 6) ≤ℤ result.most) × (result.most ≤ℤ pos 6)) }
+    {
+        let both = self.points(true, true);
+        let alone = self.worth();
+        PointRange {
+            least: i32::from(both.least)
+                - i32::from(alone.home.least)
+                - i32::from(alone.away.least),
+            most: i32::from(both.most) - i32::from(alone.home.most) - i32::from(alone.away.most),
         }
     }
 }

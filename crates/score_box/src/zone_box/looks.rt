@@ -1,7 +1,7 @@
 //! What a box says of one club, and of the outcomes that are left.
 
-ghost use Rattle.std.specs.Prelude.{◌≡◌, ◌<◌, ◌≤ℤ◌, ℕ, neg_ℤ, true, [], ◌∷◌, length};
-ghost use Rattle.std.specs.Prelude.{slice_index_or};
+ghost use Rattle.std.specs.Prelude.{◌≡◌, ◌<◌, ◌≤◌, ◌≤ℤ◌, ℕ, neg_ℤ, true, false, []};
+ghost use Rattle.std.specs.Prelude.{◌∷◌, length, slice_index_or};
 ghost use Rattle.league_core.specs.game.Limits.{most_points};
 ghost use Rattle.league_core.specs.search.Options.{options_in};
 ghost use Rattle.league_core.specs.search.PointRanges.{least_points_of, most_points_of};
@@ -13,7 +13,7 @@ ghost use Rattle.score_box.specs.inside.Points.{most_taken_off, AreOutcomesAmong
 ghost use Rattle.score_box.specs.declared.cell.Cell.{Cell};
 ghost use Rattle.score_box.specs.inside.Cells.{IsCellOf};
 ghost use Rattle.score_box.specs.inside.ZoneBoxViews.{HasFinish};
-ghost use Rattle.score_box.specs.inside.Unplayed.{unplayed_in};
+ghost use Rattle.score_box.specs.inside.Unplayed.{are_open_among, unplayed_in};
 
 use super::ZoneBox;
 use crate::points::OutcomesLeft;
@@ -106,7 +106,31 @@ impl<'a> ZoneBox<'a> {
     pub fn unplayed(&self) -> &[u16]
         ensures { result.now ≡ unplayed_in self.now.season.scores }
     {
-        self.unplayed.as_slice()
+        self.open_matches.numbers.as_slice()
+    }
+
+    /// Both clubs of an open match are of the group. Places count from 0, in the order of
+    /// `unplayed`.
+    pub fn is_open_among(&self, place: usize, group: ClubSet) -> bool
+        requires in_range { place < length (unplayed_in self.now.season.scores) }
+        ensures { result ≡ are_open_among self.now group place }
+    {
+        self.open_matches.is_among(place, group)
+    }
+
+    /// The first place, from the one given on, of an open match whose two clubs are both of the
+    /// group; if there is none, how many open matches there are.
+    #[inline(always)]
+    pub fn next_open_among(&self, from: usize, group: ClubSet) -> usize
+        requires { from ≤ length (unplayed_in self.now.season.scores) }
+        ensures from { from ≤ result }
+        ensures within { result ≤ length (unplayed_in self.now.season.scores) }
+        ensures before { (place : ℕ) → from ≤ place → place < result
+            → are_open_among self.now group place ≡ false }
+        ensures found { result < length (unplayed_in self.now.season.scores)
+            → are_open_among self.now group result ≡ true }
+    {
+        self.open_matches.next_among(from, group)
     }
 
     /// The literals of the zone.

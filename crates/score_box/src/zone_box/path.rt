@@ -88,6 +88,7 @@ impl<'a> ZoneBox<'a> {
 // The fixture that a literal is of, if it is of one, has a score left where the literal is true.
 fn leaves_score(cells: &[Cell], literal: &Literal) -> bool
     requires in_range { IsTestBelow (length cells.now) set_width literal.now.test }
+    requires exact { All IsExactCell cells.now }
     ensures { (sheet : Sheet) (season : Results) (zone : List Literal)
         → AreCellsOf cells.now (options_in sheet season zone)
         → (has_finish sheet season zone && result)
@@ -96,8 +97,7 @@ fn leaves_score(cells: &[Cell], literal: &Literal) -> bool
     match fixture_of(&literal.test) {
         Some(fixture) => {
             let mut cell = cells[fixture as usize];
-            cell.cut(literal);
-            cell.mend();
+            cell.cut_exact(literal);
             !cell.left().are_none()
         }
         None => true,
@@ -116,8 +116,7 @@ fn take_one(cells: &mut [Cell], ends: &mut Ends, fixtures: &[Fixture], literal: 
     match fixture_of(&literal.test) {
         Some(fixture) => {
             let mut cell = cells[fixture as usize];
-            cell.cut(literal);
-            cell.mend();
+            cell.cut_exact(literal);
             replace(cells, ends, fixtures, fixture, cell);
         }
         None => {}

@@ -10,6 +10,11 @@ use Rattle.league_core.specs.search.Trees.{Tree, zones_from}
 use Rattle.league_core.specs.search.TreeLists.{trees_of}
 use Rattle.tree_arena.specs.declared.zones.Step.{Step}
 
+-- what comes next and what waits behind it on a stack; if nothing comes next, nothing waits
+abbrev pub from_next : {X : Type 0} → Option X → List X → List X
+from_next None waiting = []
+from_next (Some next) waiting = next ∷ waiting
+
 -- the test of a literal
 abbrev pub literal_of : Test → Bool → Literal
 literal_of test holds = record { test = test; yes = holds }

@@ -1,7 +1,7 @@
 -- How a tree is carried over as a list: its nodes are gone through from the root on, with the parts
 -- that are still to come on a stack.
-use Rattle.std.specs.Prelude.{◌≡◌, ℕ, ◌≤◌, true, false, IsTrue, List, [], ◌∷◌, ◌++◌, length}
-use Rattle.std.specs.Prelude.{Option, Some, None}
+use Rattle.std.specs.Prelude.{◌≡◌, ℕ, ◌+◌, ◌≤◌, ◌<◌, Bool, true, false, IsTrue, List, [], ◌∷◌, ◌++◌}
+use Rattle.std.specs.Prelude.{length, Option, Some, None}
 use Rattle.league_core.specs.declared.sheet.Sheet.{Sheet}
 use Rattle.league_core.specs.declared.question.Question.{Question}
 use Rattle.league_core.specs.declared.zone.Test.{Test}
@@ -11,46 +11,49 @@ use Rattle.league_core.specs.declared.tree.TreeNode.TheVariants.{Split, Open, Le
 use Rattle.league_core.specs.game.Results.{Results}
 use Rattle.league_core.specs.search.Zones.{is_test_of}
 use Rattle.league_core.specs.search.Reasons.{has_reason}
-use Rattle.league_core.specs.search.Trees.{Tree, preorder}
-use Rattle.league_core.specs.search.TreeLists.{trees_of}
+use Rattle.league_core.specs.search.Trees.{Tree, preorder, node_count}
 use Rattle.score_box.specs.inside.ZoneBoxViews.{ZoneBoxView}
+use Rattle.tree_arena.specs.declared.subtrees.Look.{Look}
+use Rattle.tree_arena.specs.inside.Calls.{AreTestsOf}
+use Rattle.tree_arena.specs.inside.Steps.{literal_of, zone_of_part}
+use Rattle.tree_arena.specs.inside.Subtrees.{subtree_at, seen_by}
 use Rattle.tree_reuse.specs.declared.halves.Halves.{Halves}
 use Rattle.tree_reuse.specs.declared.halves.Halves.TheVariants.{Both, YesAlone, NoAlone}
 use Rattle.tree_reuse.specs.declared.carry.Part.{Part}
-use Rattle.tree_reuse.specs.declared.carry.Part.TheVariants.{Dropped, Kept}
-use Rattle.tree_arena.specs.inside.Steps.{literal_of, zone_of_part}
 use Rattle.tree_reuse.specs.Retargets.{halves_in, leaf_kept, retargeted_from}
 
--- the way after a part was taken up: that of its zone; a part that is dropped changes nothing
-abbrev pub path_after : List Literal → Part → List Literal
-path_after zone_box Dropped = zone_box
-path_after zone_box (Kept depth literal) = zone_of_part zone_box depth literal
-
--- the nodes that the parts become, which stand on the trees one after another
-abbrev pub nodes_to_come : Sheet → Results → Question → List Literal → List Part → List Tree
+-- the nodes that the parts become, whose trees stand among these
+abbrev pub nodes_to_come : Sheet → Results → Question → List Tree → List Literal → List Part
     → List TreeNode
-nodes_to_come sheet season question zone_box [] trees = []
-nodes_to_come sheet season question zone_box (part ∷ parts) [] = []
-nodes_to_come sheet season question zone_box (Dropped ∷ parts) (tree ∷ trees) =
-    nodes_to_come sheet season question zone_box parts trees
-nodes_to_come sheet season question zone_box (Kept depth literal ∷ parts) (tree ∷ trees) =
-    preorder (retargeted_from sheet season question (zone_of_part zone_box depth literal) tree)
-    ++ nodes_to_come sheet season question zone_box parts trees
+nodes_to_come sheet season question trees zone_box [] = []
+nodes_to_come sheet season question trees zone_box (part ∷ parts) =
+    preorder (retargeted_from sheet season question
+    (zone_of_part zone_box part.depth part.literal) (subtree_at trees part.at))
+    ++ nodes_to_come sheet season question trees zone_box parts
 
--- the two halves of a split that is left, by what stays of it, the yes half first
-abbrev pub halves_kept : Halves → ℕ → Test → List Part → List Part
-halves_kept Both depth test parts =
-    Kept depth (Some (literal_of test true)) ∷ Kept depth (Some (literal_of test false)) ∷ parts
-halves_kept YesAlone depth test parts = Kept depth None ∷ Dropped ∷ parts
-halves_kept NoAlone depth test parts = Dropped ∷ Kept depth None ∷ parts
+-- the half of a split of which both halves stay
+abbrev pub half_part : ℕ → ℕ → Test → Bool → Part
+half_part at depth test holds =
+    record { at = at; depth = depth; literal = Some (literal_of test holds) }
 
--- the parts that are to come after a node of a part that stays
-abbrev pub parts_after : Sheet → Results → List Literal → TreeNode → List Part → List Part
-parts_after sheet season zone Open parts = parts
-parts_after sheet season zone (Lent number) parts = parts
-parts_after sheet season zone (Refuted reason fresh) parts = parts
-parts_after sheet season zone (Split test fresh) parts =
-    halves_kept (halves_in sheet season zone test) (length zone) test parts
+-- a part in the zone of so many literals
+abbrev pub part_alone : ℕ → ℕ → Part
+part_alone at depth = record { at = at; depth = depth; literal = None }
+
+-- the halves of a split that is left, by what stays of it, the yes half first
+abbrev pub halves_kept : Halves → ℕ → Test → Look → List Part → List Part
+halves_kept Both depth test look parts =
+    half_part look.yes_half depth test true ∷ half_part look.no_half depth test false ∷ parts
+halves_kept YesAlone depth test look parts = part_alone look.yes_half depth ∷ parts
+halves_kept NoAlone depth test look parts = part_alone look.no_half depth ∷ parts
+
+-- the parts that are to come after this node, at which this is the look
+abbrev pub parts_after : Sheet → Results → List Literal → TreeNode → Look → List Part → List Part
+parts_after sheet season zone Open look parts = parts
+parts_after sheet season zone (Lent number) look parts = parts
+parts_after sheet season zone (Refuted reason fresh) look parts = parts
+parts_after sheet season zone (Split test fresh) look parts =
+    halves_kept (halves_in sheet season zone test) (length zone) test look parts
 
 -- a split of which both halves stay is a node, and is not new
 abbrev pub split_kept : Halves → Test → List TreeNode
@@ -58,7 +61,7 @@ split_kept Both test = Split test false ∷ []
 split_kept YesAlone test = []
 split_kept NoAlone test = []
 
--- the node, if any, that a node of a part that stays becomes
+-- the node, if any, that a node becomes
 abbrev pub nodes_kept : Sheet → Results → Question → List Literal → TreeNode → List TreeNode
 nodes_kept sheet season question zone Open = Open ∷ []
 nodes_kept sheet season question zone (Lent number) = Open ∷ []
@@ -67,45 +70,47 @@ nodes_kept sheet season question zone (Refuted reason fresh) =
 nodes_kept sheet season question zone (Split test fresh) =
     split_kept (halves_in sheet season zone test) test
 
--- the parts that are to come after a node of a part that is dropped
-abbrev pub parts_dropped : TreeNode → List Part → List Part
-parts_dropped Open parts = parts
-parts_dropped (Lent number) parts = parts
-parts_dropped (Refuted reason fresh) parts = parts
-parts_dropped (Split test fresh) parts = Dropped ∷ Dropped ∷ parts
-
--- the parts after a node of this part, if the way is that of its zone
-abbrev pub parts_next : Sheet → Results → List Literal → Part → TreeNode → List Part → List Part
-parts_next sheet season zone_box Dropped node parts = parts_dropped node parts
-parts_next sheet season zone_box (Kept depth literal) node parts =
-    parts_after sheet season zone_box node parts
-
--- the nodes that a node of this part becomes
-abbrev pub nodes_next : Sheet → Results → Question → List Literal → Part → TreeNode
-    → List TreeNode
-nodes_next sheet season question zone_box Dropped node = []
-nodes_next sheet season question zone_box (Kept depth literal) node =
-    nodes_kept sheet season question zone_box node
-
 -- a literal, if there is one, tests one of the sheet's fixtures or clubs
 abbrev pub IsLiteralOf : Sheet → Option Literal → Type 0
 IsLiteralOf sheet None = Unit {0}
 IsLiteralOf sheet (Some literal) = IsTrue (is_test_of sheet literal.test)
 
--- no part stands deeper than the one before it, and the literals are of the sheet
-abbrev pub ArePartsOf : Sheet → ℕ → List Part → Type 0
-ArePartsOf sheet depth [] = Unit {0}
-ArePartsOf sheet depth (Dropped ∷ parts) = ArePartsOf sheet depth parts
-ArePartsOf sheet depth (Kept start literal ∷ parts) =
-    (start ≤ depth) × IsLiteralOf sheet literal × ArePartsOf sheet start parts
+-- a part stands no deeper than this, and its tests are of the sheet
+pub record IsPartBelow (sheet : Sheet) (trees : List Tree) (depth : ℕ) (part : Part) : Type 0 where
+  pub within : part.at < length trees
+  pub no_deeper : part.depth ≤ depth
+  pub literal : IsLiteralOf sheet part.literal
+  pub tests : AreTestsOf sheet (subtree_at trees part.at)
 
--- how far the walk over the list of a tree's nodes has come: the parts to come stand on trees whose
--- list is what is left, and what was found with what they become is the list that is wanted
-pub record IsWalk (question : Question) (zone_box : ZoneBoxView) (nodes : List TreeNode)
+-- no part stands deeper than the one before it
+abbrev pub ArePartsOf : Sheet → List Tree → ℕ → List Part → Type 0
+ArePartsOf sheet trees depth [] = Unit {0}
+ArePartsOf sheet trees depth (part ∷ parts) =
+    IsPartBelow sheet trees depth part × ArePartsOf sheet trees part.depth parts
+
+-- how many nodes the trees of the parts have
+abbrev pub count_to_come : List Tree → List Part → ℕ
+count_to_come trees [] = 0
+count_to_come trees (part ∷ parts) =
+    node_count (subtree_at trees part.at) + count_to_come trees parts
+
+-- the first node of a part was taken
+pub record TakesPart (question : Question) (trees : List Tree) (part : Part)
+    (old new : ZoneBoxView) (parts next : List Part) (found more : List TreeNode) : Type 0 where
+  pub look : Look
+  pub seen : subtree_at trees part.at ≡ seen_by trees look
+  pub yes_half : look.yes_half < length trees
+  pub no_half : look.no_half < length trees
+  pub box_is : new ≡ record old { zone = zone_of_part old.zone part.depth part.literal }
+  pub next_is : next ≡ parts_after old.sheet old.season
+      (zone_of_part old.zone part.depth part.literal) look.node look parts
+  pub more_is : more ≡ found ++ nodes_kept old.sheet old.season question
+      (zone_of_part old.zone part.depth part.literal) look.node
+
+-- how far the walk over a tree's nodes has come: what was found with what the parts to come become
+-- is the list that is wanted
+pub record IsWalk (question : Question) (trees : List Tree) (zone_box : ZoneBoxView)
     (parts : List Part) (found wanted : List TreeNode) : Type 0 where
-  pub trees : List Tree
-  pub left : trees_of nodes ≡ Some trees
-  pub many : length parts ≡ length trees
-  pub parts_of : ArePartsOf zone_box.sheet (length zone_box.zone) parts
-  pub become : found ++ nodes_to_come zone_box.sheet zone_box.season question zone_box.zone parts
-      trees ≡ wanted
+  pub parts_of : ArePartsOf zone_box.sheet trees (length zone_box.zone) parts
+  pub become : found ++ nodes_to_come zone_box.sheet zone_box.season question trees zone_box.zone
+      parts ≡ wanted

@@ -43,7 +43,9 @@ loop-i-preserved c =
     let in_fixtures : number < length fixtures = c.requires.in_range i 0 within in
     let in_cells : number < length c.args.cells.now = omega
     (arith, in_fixtures, c.requires.many) in
-    let moves = c.move_ranges.ensures c.none-empty.result _ c.of-none.ensures c.left-left.ensures in
+    let moves = c.move_ranges.ensures c.none-empty.result _
+    (c.worth-none.ensures.points c.none-empty.result c.of.ensures)
+    (c.worth.ensures.points _ c.left-left.ensures) in
     let some = c.requires.some in (
       λ options are club.
           let move = moves club [] (get_or options number []) c.none-empty.ensures

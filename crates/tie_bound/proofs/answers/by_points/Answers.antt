@@ -31,10 +31,10 @@ loop-rival-preserved c =
     ∙ by_points-read box.sheet box.season (options_in_box box) table rival club
     (as_range c.points_of-points.result) (as_range c.points_of-own.result) c.requires
     (c.points_of-points.ensures ∙ points-read c.season-season.result.now box.season table rival
-    c.sums_at-in-loop-rival.result c.season-season.ensures.season
+    c.sums_at-in-loop-rival.result.now c.season-season.ensures.season
     c.sums_at-in-loop-rival.ensures)
     (c.points_of-own.ensures ∙ points-read c.season-season.result.now box.season table club
-    c.sums_at.result c.season-season.ensures.season c.sums_at.ensures) in
+    c.sums_at.result.now c.season-season.ensures.season c.sums_at.ensures) in
     answers_more (λ k. sure_by_points box.sheet box.season (options_in_box box) k club) rival
     c.by_range.result c.loop-rival.answers c.with-answers.result c.loop-rival.invariant
     (record { is = c.with-answers.ensures }) answer

@@ -1,25 +1,38 @@
-use Rattle.std.proofs.Common.{ap, ◌∙◌, ◌++◌, ◌∷◌, []}
+use Rattle.std.proofs.Common.{◌∙◌, ◌++◌, ◌∷◌, [], ap, reverse}
+use Rattle.league_core.specs.search.Trees.{preorder}
+use Rattle.tree_arena.specs.inside.Arena.{tree_below}
+use Rattle.tree_arena.specs.inside.Steps.{from_next}
 use Rattle.tree_arena.proofs.ArenaLemmas.{any_node}
-use Rattle.tree_arena.proofs.VisitLemmas.{lists_top, lists_on, lists_less, room_for}
+use Rattle.tree_arena.proofs.VisitLemmas.{lists_next, lists_on, lists_less, room_for}
 use Rattle.tree_arena.proofs.list.list_nodes.Goals as goal
 
-pub push_halves-requires : goal.push_halves-requires
-push_halves-requires c =
-    let top = lists_top c.args.nodes.now c.loop-at.stack.items c.pop.new.self.items c.in-Some.at
-    c.loop-at.found.items _ c.loop-at.invariant c.in-Some.ensures.items in
-    room_for c.args.nodes.now c.in-Some.at any_node c.requires.within top.are.0 c.requires.few
+pub next_node-requires : goal.next_node-requires
+next_node-requires c =
+    let nodes = c.args.nodes.now in
+    let here = lists_next nodes c.loop-next.next c.in-Some.at (reverse c.loop-next.stack.items)
+    c.loop-next.found.items (preorder (tree_below nodes 0)) c.loop-next.invariant c.in-Some.is in
+    room_for nodes c.in-Some.at any_node c.requires.within here.are.0 c.requires.few
 
-pub loop-at-smaller : goal.loop-at-smaller
-loop-at-smaller c =
-    lists_less c.args.nodes.now c.loop-at.stack.items c.pop.new.self.items
-    c.push_halves.new.stack.items c.in-Some.at any_node c.loop-at.found.items _
-    c.requires.within c.loop-at.invariant c.in-Some.ensures.items c.in_ok-push_halves.ensures
+pub loop-next-smaller : goal.loop-next-smaller
+loop-next-smaller c =
+    let nodes = c.args.nodes.now in
+    let waiting = reverse c.loop-next.stack.items in
+    let wanted = preorder (tree_below nodes 0) in
+    let here = lists_next nodes c.loop-next.next c.in-Some.at waiting c.loop-next.found.items
+    wanted c.loop-next.invariant c.in-Some.is in
+    rw c.in-Some.is (lists_less nodes waiting
+    (from_next c.in_ok-next.next (reverse c.next_node.new.stack.items)) c.in-Some.at any_node
+    c.loop-next.found.items wanted c.requires.within here c.in_ok-next.ensures)
 
-pub loop-at-preserved : goal.loop-at-preserved
-loop-at-preserved c =
-    lists_on c.args.nodes.now c.loop-at.stack.items c.pop.new.self.items
-    c.push_halves.new.stack.items c.in-Some.at any_node c.loop-at.found.items
-    c.push-in-Some.new.self.items _ c.requires.within c.loop-at.invariant
-    c.in-Some.ensures.items c.in_ok-push_halves.ensures
-    (c.in_ok-push-2.ensures.items
-    ∙ ap (λ node. c.loop-at.found.items ++ node ∷ []) c.listed.ensures)
+pub loop-next-preserved : goal.loop-next-preserved
+loop-next-preserved c =
+    let nodes = c.args.nodes.now in
+    let waiting = reverse c.loop-next.stack.items in
+    let wanted = preorder (tree_below nodes 0) in
+    let here = lists_next nodes c.loop-next.next c.in-Some.at waiting c.loop-next.found.items
+    wanted c.loop-next.invariant c.in-Some.is in
+    lists_on nodes waiting (from_next c.in_ok-next.next (reverse c.next_node.new.stack.items))
+    c.in-Some.at any_node c.loop-next.found.items c.push.new.self.items wanted
+    c.requires.within here c.in_ok-next.ensures
+    (c.in_ok-push.ensures.items
+    ∙ ap (λ node. c.loop-next.found.items ++ node ∷ []) c.listed.ensures)

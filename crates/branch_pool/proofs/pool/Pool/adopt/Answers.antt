@@ -30,10 +30,11 @@ invariant_of-self c =
       home = c.requires.home;
       asked = c.requires.asked;
     }) in (
-      adopted_sound (state_of c.self.inside) c.args.place c.args.tree _ c.self.invariant.0
+      rw c.adopt.ensures
+          (adopted_sound (state_of c.self.inside) c.args.place c.args.tree _ c.self.invariant.0
           (adopt_after (state_of c.self.inside) c.args.place c.index_mut-seat.result.now
           c.index.result.now c.args.tree c.in_ok-kept.kept c.self.invariant.0 may
-          c.index_mut-seat.ensures.value c.index.ensures c.in_ok-kept.ensures),
+          c.index_mut-seat.ensures.value c.index.ensures c.in_ok-kept.ensures)),
       work_from_start _ _,
     )
 
@@ -45,7 +46,7 @@ returns-clause-ok c =
       home = c.requires.home;
       asked = c.requires.asked;
     }) in
-    rw (← c.self.view_is)
+    rw (← c.self.view_is, c.adopt.ensures)
     (adopt_after (state_of c.self.inside) c.args.place c.index_mut-seat.result.now
     c.index.result.now c.args.tree c.in_ok-kept.kept c.self.invariant.0 may
     c.index_mut-seat.ensures.value c.index.ensures c.in_ok-kept.ensures)

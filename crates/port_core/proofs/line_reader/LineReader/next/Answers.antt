@@ -30,11 +30,13 @@ pub lines-preserved : goal.lines-preserved
 lines-preserved g c =
     let ended = c.await_line-due.ensures in
     let due = c.await_line-due.result in
-    let line = awaited g.S.Source.left g.S.Source.reads c.self.inside.held c.await_line-due.new.held
-    c.self.inside.text (record { lines = c.self.inside.lines; bytes = c.self.inside.bytes })
-    c.lines.self c.most-most.result c.lines.source c.await_line-due.new.source due c.self.view_is
+    let old = c.self.inside.buffer in
+    let new = c.await_line-due.new.buffer in
+    let line = awaited g.S.Source.left g.S.Source.reads old.held new.held old.text new.text
+    (record { lines = c.self.inside.lines; bytes = c.self.inside.bytes }) c.lines.self
+    c.most-most.result c.lines.source c.await_line-due.new.source due c.self.view_is
     c.self.invariant.1 c.most-most.ensures.within c.most-most.ensures.value ended.stream ended.due
-    ended.within ended.takes ended.last ended.ready ended.full in
+    ended.text ended.within ended.takes ended.last ended.ready ended.full in
     let before = c.lines.invariant in
     let answer = c.in_default.ensures.answer in
     let taken = line.waits.takes in
@@ -62,11 +64,13 @@ pub returns-in-Some-clause-gives : goal.returns-in-Some-clause-gives
 returns-in-Some-clause-gives g c =
     let ended = c.await_line-due.ensures in
     let due = c.await_line-due.result in
-    let line = awaited g.S.Source.left g.S.Source.reads c.self.inside.held c.await_line-due.new.held
-    c.self.inside.text (record { lines = c.self.inside.lines; bytes = c.self.inside.bytes })
-    c.lines.self c.most-most.result c.lines.source c.await_line-due.new.source due c.self.view_is
+    let old = c.self.inside.buffer in
+    let new = c.await_line-due.new.buffer in
+    let line = awaited g.S.Source.left g.S.Source.reads old.held new.held old.text new.text
+    (record { lines = c.self.inside.lines; bytes = c.self.inside.bytes }) c.lines.self
+    c.most-most.result c.lines.source c.await_line-due.new.source due c.self.view_is
     c.self.invariant.1 c.most-most.ensures.within c.most-most.ensures.value ended.stream ended.due
-    ended.within ended.takes ended.last ended.ready ended.full in
+    ended.text ended.within ended.takes ended.last ended.ready ended.full in
     let P : Option Contents → Type 0 = λ before. NextGives before
     (contents_to_come c.end_wait.new.self (g.S.Source.left c.await_line-due.new.source))
     c.end_wait.new.self.text c.in-Some.result in
@@ -77,22 +81,26 @@ pub returns-in-Some-clause-leaves : goal.returns-in-Some-clause-leaves
 returns-in-Some-clause-leaves g c =
     let ended = c.await_line-due.ensures in
     let due = c.await_line-due.result in
-    let line = awaited g.S.Source.left g.S.Source.reads c.self.inside.held c.await_line-due.new.held
-    c.self.inside.text (record { lines = c.self.inside.lines; bytes = c.self.inside.bytes })
-    c.lines.self c.most-most.result c.lines.source c.await_line-due.new.source due c.self.view_is
+    let old = c.self.inside.buffer in
+    let new = c.await_line-due.new.buffer in
+    let line = awaited g.S.Source.left g.S.Source.reads old.held new.held old.text new.text
+    (record { lines = c.self.inside.lines; bytes = c.self.inside.bytes }) c.lines.self
+    c.most-most.result c.lines.source c.await_line-due.new.source due c.self.view_is
     c.self.invariant.1 c.most-most.ensures.within c.most-most.ensures.value ended.stream ended.due
-    ended.within ended.takes ended.last ended.ready ended.full in
+    ended.text ended.within ended.takes ended.last ended.ready ended.full in
     wait-leaves _ _ _ _ _ due (Some c.in-Some.result) line.waits c.in-Some.ensures.answer
 
 pub returns-in-Some-clause-passes : goal.returns-in-Some-clause-passes
 returns-in-Some-clause-passes g c =
     let ended = c.await_line-due.ensures in
     let due = c.await_line-due.result in
-    let line = awaited g.S.Source.left g.S.Source.reads c.self.inside.held c.await_line-due.new.held
-    c.self.inside.text (record { lines = c.self.inside.lines; bytes = c.self.inside.bytes })
-    c.lines.self c.most-most.result c.lines.source c.await_line-due.new.source due c.self.view_is
+    let old = c.self.inside.buffer in
+    let new = c.await_line-due.new.buffer in
+    let line = awaited g.S.Source.left g.S.Source.reads old.held new.held old.text new.text
+    (record { lines = c.self.inside.lines; bytes = c.self.inside.bytes }) c.lines.self
+    c.most-most.result c.lines.source c.await_line-due.new.source due c.self.view_is
     c.self.invariant.1 c.most-most.ensures.within c.most-most.ensures.value ended.stream ended.due
-    ended.within ended.takes ended.last ended.ready ended.full in
+    ended.text ended.within ended.takes ended.last ended.ready ended.full in
     passes-more _ _ _ _ _ _ _ _ _ [] (given_by c.in-Some.result c.end_wait.new.self.text)
     c.lines.invariant.passes (wait-passes _ _ _ _ _ _ _ due (Some c.in-Some.result) line.waits
     c.in-Some.ensures.answer ended.end)
@@ -101,11 +109,13 @@ pub returns-in-Some-clause-moves : goal.returns-in-Some-clause-moves
 returns-in-Some-clause-moves g c =
     let ended = c.await_line-due.ensures in
     let due = c.await_line-due.result in
-    let line = awaited g.S.Source.left g.S.Source.reads c.self.inside.held c.await_line-due.new.held
-    c.self.inside.text (record { lines = c.self.inside.lines; bytes = c.self.inside.bytes })
-    c.lines.self c.most-most.result c.lines.source c.await_line-due.new.source due c.self.view_is
+    let old = c.self.inside.buffer in
+    let new = c.await_line-due.new.buffer in
+    let line = awaited g.S.Source.left g.S.Source.reads old.held new.held old.text new.text
+    (record { lines = c.self.inside.lines; bytes = c.self.inside.bytes }) c.lines.self
+    c.most-most.result c.lines.source c.await_line-due.new.source due c.self.view_is
     c.self.invariant.1 c.most-most.ensures.within c.most-most.ensures.value ended.stream ended.due
-    ended.within ended.takes ended.last ended.ready ended.full in
+    ended.text ended.within ended.takes ended.last ended.ready ended.full in
     MovesOn-from c.args.self.now c.lines.self c.end_wait.new.self c.in-Some.result
     c.lines.invariant.passed
     (wait-moves _ _ _ _ _ due (Some c.in-Some.result) line.waits c.in-Some.ensures.answer)
@@ -114,11 +124,13 @@ pub returns-in-Some-clause-takes : goal.returns-in-Some-clause-takes
 returns-in-Some-clause-takes g c =
     let ended = c.await_line-due.ensures in
     let due = c.await_line-due.result in
-    let line = awaited g.S.Source.left g.S.Source.reads c.self.inside.held c.await_line-due.new.held
-    c.self.inside.text (record { lines = c.self.inside.lines; bytes = c.self.inside.bytes })
-    c.lines.self c.most-most.result c.lines.source c.await_line-due.new.source due c.self.view_is
+    let old = c.self.inside.buffer in
+    let new = c.await_line-due.new.buffer in
+    let line = awaited g.S.Source.left g.S.Source.reads old.held new.held old.text new.text
+    (record { lines = c.self.inside.lines; bytes = c.self.inside.bytes }) c.lines.self
+    c.most-most.result c.lines.source c.await_line-due.new.source due c.self.view_is
     c.self.invariant.1 c.most-most.ensures.within c.most-most.ensures.value ended.stream ended.due
-    ended.within ended.takes ended.last ended.ready ended.full in
+    ended.text ended.within ended.takes ended.last ended.ready ended.full in
     let taken = line.waits.takes in
     TakesInput-more c.args.self.now c.lines.self c.end_wait.new.self _ _ _
     c.lines.invariant.takes (taken.0, taken.1, c.end_wait.ensures.count ∙ taken.2)
@@ -127,22 +139,26 @@ pub returns-in-Some-clause-ready : goal.returns-in-Some-clause-ready
 returns-in-Some-clause-ready g c =
     let ended = c.await_line-due.ensures in
     let due = c.await_line-due.result in
-    let line = awaited g.S.Source.left g.S.Source.reads c.self.inside.held c.await_line-due.new.held
-    c.self.inside.text (record { lines = c.self.inside.lines; bytes = c.self.inside.bytes })
-    c.lines.self c.most-most.result c.lines.source c.await_line-due.new.source due c.self.view_is
+    let old = c.self.inside.buffer in
+    let new = c.await_line-due.new.buffer in
+    let line = awaited g.S.Source.left g.S.Source.reads old.held new.held old.text new.text
+    (record { lines = c.self.inside.lines; bytes = c.self.inside.bytes }) c.lines.self
+    c.most-most.result c.lines.source c.await_line-due.new.source due c.self.view_is
     c.self.invariant.1 c.most-most.ensures.within c.most-most.ensures.value ended.stream ended.due
-    ended.within ended.takes ended.last ended.ready ended.full in
+    ended.text ended.within ended.takes ended.last ended.ready ended.full in
     λ has. line.ready (c.lines.invariant.answer has) ∙ c.lines.invariant.ready has
 
 pub returns-in-Some-clause-last : goal.returns-in-Some-clause-last
 returns-in-Some-clause-last g c =
     let ended = c.await_line-due.ensures in
     let due = c.await_line-due.result in
-    let line = awaited g.S.Source.left g.S.Source.reads c.self.inside.held c.await_line-due.new.held
-    c.self.inside.text (record { lines = c.self.inside.lines; bytes = c.self.inside.bytes })
-    c.lines.self c.most-most.result c.lines.source c.await_line-due.new.source due c.self.view_is
+    let old = c.self.inside.buffer in
+    let new = c.await_line-due.new.buffer in
+    let line = awaited g.S.Source.left g.S.Source.reads old.held new.held old.text new.text
+    (record { lines = c.self.inside.lines; bytes = c.self.inside.bytes }) c.lines.self
+    c.most-most.result c.lines.source c.await_line-due.new.source due c.self.view_is
     c.self.invariant.1 c.most-most.ensures.within c.most-most.ensures.value ended.stream ended.due
-    ended.within ended.takes ended.last ended.ready ended.full in
+    ended.text ended.within ended.takes ended.last ended.ready ended.full in
     stops-more _ _ _ _ _ _ _ _ c.in-Some.result c.lines.invariant.same c.lines.invariant.takes
     c.lines.invariant.last (wait-last _ _ _ _ _ _ _ due (Some c.in-Some.result) line.waits
     c.in-Some.ensures.answer c.end_wait.ensures.count line.last)
@@ -151,11 +167,13 @@ pub returns-in-Some-clause-stopped : goal.returns-in-Some-clause-stopped
 returns-in-Some-clause-stopped g c =
     let ended = c.await_line-due.ensures in
     let due = c.await_line-due.result in
-    let line = awaited g.S.Source.left g.S.Source.reads c.self.inside.held c.await_line-due.new.held
-    c.self.inside.text (record { lines = c.self.inside.lines; bytes = c.self.inside.bytes })
-    c.lines.self c.most-most.result c.lines.source c.await_line-due.new.source due c.self.view_is
+    let old = c.self.inside.buffer in
+    let new = c.await_line-due.new.buffer in
+    let line = awaited g.S.Source.left g.S.Source.reads old.held new.held old.text new.text
+    (record { lines = c.self.inside.lines; bytes = c.self.inside.bytes }) c.lines.self
+    c.most-most.result c.lines.source c.await_line-due.new.source due c.self.view_is
     c.self.invariant.1 c.most-most.ensures.within c.most-most.ensures.value ended.stream ended.due
-    ended.within ended.takes ended.last ended.ready ended.full in
+    ended.text ended.within ended.takes ended.last ended.ready ended.full in
     λ stop has.
     let same = c.lines.invariant.stopped stop has in
     let here : HasStop c.lines.self stop =

@@ -15,7 +15,7 @@ of-ends-requires-clause-many c =
 
 pub of-ends-requires-clause-in_range : goal.of-ends-requires-clause-in_range
 of-ends-requires-clause-in_range c i d within =
-    let numbers = c.deref-2.ensures.value ∙ c.in_ok-unplayed.ensures
+    let numbers = c.deref-2.ensures.value ∙ c.in_ok-open_matches.ensures.numbers
     ∙ ap unplayed_in c.scores-2.ensures.scores in
     let below = unplayed_in_range c.args.season.now.scores i d
     (omega (arith, within, ap length numbers)) in
@@ -28,7 +28,7 @@ of-ends-requires-clause-in_range c i d within =
 
 pub of-ends-requires-clause-few : goal.of-ends-requires-clause-few
 of-ends-requires-clause-few c =
-    let numbers = c.deref-2.ensures.value ∙ c.in_ok-unplayed.ensures
+    let numbers = c.deref-2.ensures.value ∙ c.in_ok-open_matches.ensures.numbers
     ∙ ap unplayed_in c.scores-2.ensures.scores in
     omega (
       arith,

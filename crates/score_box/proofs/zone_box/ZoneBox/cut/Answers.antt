@@ -79,6 +79,8 @@ invariant_of-self-2 c =
     let literal = c.args.literal in
     let is : is_test_of box.sheet.now literal.test ≡ true =
     ap (λ (s : ZoneBoxView). is_test_of s.sheet literal.test) c.self.view_is ∙ c.requires in
+    let numbers = box.open_matches.numbers.items in
+    let sides = box.open_matches.sides.items in
     let new = c.take_one.new.cells in
     let ends = c.take_one.new.ends in
     let before = c.with-self-inside.result.before in
@@ -118,24 +120,24 @@ invariant_of-self-2 c =
       sheet = box.sheet.now;
       season = box.season.now;
       zone = c.push_both.new.zone.items;
-    }) c.push_both.new.trail.items box.unplayed.items cells before after ends
+    }) c.push_both.new.trail.items numbers sides cells before after ends
     box.tables.clubs.items box.tables.pairs.items in
     let With_zone : List Literal → Type 0 = λ zone. IsBoxOf (record {
       sheet = box.sheet.now;
       season = box.season.now;
       zone = zone;
-    }) c.push_both.new.trail.items box.unplayed.items new before after ends
+    }) c.push_both.new.trail.items numbers sides new before after ends
     box.tables.clubs.items box.tables.pairs.items in
     let With_trail : List Undo → Type 0 = λ trail. IsBoxOf (record {
       sheet = box.sheet.now;
       season = box.season.now;
       zone = box.zone.items ++ literal ∷ [];
-    }) trail box.unplayed.items new before after ends
+    }) trail numbers sides new before after ends
     box.tables.clubs.items box.tables.pairs.items in
     subst With_cells (sym all)
     (subst With_zone (sym c.in_ok-push_both.ensures.zone)
     (subst With_trail (sym c.in_ok-push_both.ensures.trail)
     (box_with box.sheet.now box.season.now box.zone.items literal box.trail.items undo
-    box.unplayed.items box.cells.items new box.marks.before box.marks.after before after box.ends
+    numbers sides box.cells.items new box.marks.before box.marks.after before after box.ends
     ends box.tables.clubs.items box.tables.pairs.items c.self.invariant is stood more.0 more.1
     c.with-self-inside.ensures.before c.with-self-inside.ensures.after)))

@@ -9,6 +9,8 @@ use Rattle.league_core.specs.game.Results.{Results}
 use Rattle.league_core.specs.search.Options.{options_in, has_option, has_finish}
 use Rattle.league_core.proofs.plain.Counts.{all_counted}
 use Rattle.score_box.specs.declared.cell.Cell.{Cell}
+use Rattle.std.specs.List.{All}
+use Rattle.score_box.specs.inside.Cells.{IsExactCell}
 use Rattle.score_box.specs.inside.Boxes.{AreCellsOf}
 use Rattle.score_box.specs.inside.Ends.{empty_in}
 use Rattle.score_box.specs.inside.ZoneBoxViews.{ZoneBoxView}
@@ -28,6 +30,9 @@ leaves_score-leaves-requires c =
     record {
       in_range = test_below box.sheet.now (length c.deref.result.now) c.args.literal.test many
           (omega (arith, c.self.invariant.league.limits.most_clubs)) is;
+      exact =
+          let Exact : List Cell → Type 0 = λ cells. All IsExactCell cells in
+          subst Exact (sym c.deref.ensures.value) c.self.invariant.options.exact;
     }
 
 -- no fixture is without an option exactly when the zone has a finish

@@ -78,6 +78,8 @@ invariant_of-self c =
     let box = c.self.inside in
     let sheet = box.sheet.now in
     let season = box.season.now in
+    let numbers = box.open_matches.numbers.items in
+    let sides = box.open_matches.sides.items in
     let zone = c.pop.new.self.items in
     let trail = c.pop-2.new.self.items in
     let literal = c.unwrap-literal.result in
@@ -89,11 +91,11 @@ invariant_of-self c =
     let trail_is = popped box.trail.items trail c.pop-2.result undo c.pop-2.ensures.items
     c.unwrap-undo.ensures in
     let Box_of_zone : List Literal → Type 0 = λ z. IsBoxOf
-    (record { sheet = sheet; season = season; zone = z }) box.trail.items box.unplayed.items
+    (record { sheet = sheet; season = season; zone = z }) box.trail.items numbers sides
     box.cells.items box.marks.before box.marks.after box.ends box.tables.clubs.items
     box.tables.pairs.items in
     let Box_of_trail : List Undo → Type 0 = λ t. IsBoxOf
-    (record { sheet = sheet; season = season; zone = zone ++ literal ∷ [] }) t box.unplayed.items
+    (record { sheet = sheet; season = season; zone = zone ++ literal ∷ [] }) t numbers sides
     box.cells.items box.marks.before box.marks.after box.ends box.tables.clubs.items
     box.tables.pairs.items in
     let is = subst Box_of_trail trail_is (subst Box_of_zone zone_is c.self.invariant) in
@@ -113,9 +115,9 @@ invariant_of-self c =
     ) in
     let all = take-front box.cells.len new (drop (length new) box.cells.items) many in
     let With_cells : List Cell → Type 0 = λ cells. IsBoxOf
-    (record { sheet = sheet; season = season; zone = zone }) trail box.unplayed.items cells
+    (record { sheet = sheet; season = season; zone = zone }) trail numbers sides cells
     undo.marks.before undo.marks.after ends box.tables.clubs.items box.tables.pairs.items in
     subst With_cells (sym all)
-    (box_without sheet season zone literal trail undo box.unplayed.items box.cells.items new
+    (box_without sheet season zone literal trail undo numbers sides box.cells.items new
     box.marks.before box.marks.after box.ends ends box.tables.clubs.items box.tables.pairs.items is
     less.0 less.1)

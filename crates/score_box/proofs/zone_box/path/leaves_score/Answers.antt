@@ -13,6 +13,11 @@ use Rattle.score_box.proofs.zone_box.path.leaves_score.Goals as goal
 pub bounds-cells-fixture : goal.bounds-cells-fixture
 bounds-cells-fixture c = c.in-Some.ensures.some.2 (length c.args.cells.now) c.requires.in_range
 
+pub cut_exact-requires-clause-exact : goal.cut_exact-requires-clause-exact
+cut_exact-requires-clause-exact c =
+    c.requires.exact c.in-Some.fixture _
+    (c.in-Some.ensures.some.2 (length c.args.cells.now) c.requires.in_range)
+
 pub returns-in-Some : goal.returns-in-Some
 returns-in-Some c sheet season zone are =
     let cells = c.args.cells.now in
@@ -20,18 +25,16 @@ returns-in-Some c sheet season zone are =
     let f = c.in-Some.fixture in
     let on = c.in-Some.ensures.some.1 in
     let within : f < length cells = c.in-Some.ensures.some.2 (length cells) c.requires.in_range in
-    let cell = c.mend.new.self in
+    let cell = c.cut_exact.new.self in
     finish_cut sheet season zone literal cells f cell (not c.are_none.result) within are
     (takes_cut cells f cell literal within on
     (λ d score.
-    c.mend.ensures.scores score
-    ∙ c.cut.ensures score
+    c.cut_exact.ensures.scores score
     ∙ ap (λ it. allows it score && is_as_said literal.yes (passes literal.test score))
     (get_or_default cells f _ d within))
-    c.mend.ensures.exact sheet.goal_limit zone season.scores are)
+    c.cut_exact.ensures.exact sheet.goal_limit zone season.scores are)
     (λ d empty score.
-    c.mend.ensures.scores score
-    ∙ c.cut.ensures score
+    c.cut_exact.ensures.scores score
     ∙ ap (λ b. b && is_as_said literal.yes (passes literal.test score))
     (ap (λ it. allows it score) (get_or_default cells f _ d within) ∙ empty score))
     (λ some empty.

@@ -17,6 +17,11 @@ use Rattle.score_box.proofs.zone_box.path.take_one.Goals as goal
 pub slice_copy_out-cell : goal.slice_copy_out-cell
 slice_copy_out-cell c = c.in-Some.ensures.some.2 (length c.args.cells.now) c.requires.in_range
 
+pub cut_exact-requires-clause-exact : goal.cut_exact-requires-clause-exact
+cut_exact-requires-clause-exact c =
+    c.requires.ends.1.exact c.in-Some.fixture _
+    (c.in-Some.ensures.some.2 (length c.args.cells.now) c.requires.in_range)
+
 pub replace-requires-clause-in_range : goal.replace-requires-clause-in_range
 replace-requires-clause-in_range c =
     c.in-Some.ensures.some.2 (length c.args.cells.now) c.requires.in_range
@@ -35,19 +40,18 @@ returns-in-Some c limit zone scores are ends_are =
     ) in
     let old = options_from limit zone 0 scores in
     let new = options_from limit (zone ++ literal ∷ []) 0 scores in
-    let cut = takes_cut cells f c.mend.new.self literal within on
+    let cut = takes_cut cells f c.cut_exact.new.self literal within on
     (λ d score.
-    c.mend.ensures.scores score
-    ∙ c.cut.ensures score
+    c.cut_exact.ensures.scores score
     ∙ ap (λ cell. allows cell score && is_as_said literal.yes (passes literal.test score))
-    (get_or_default cells f _ d within)) c.mend.ensures.exact limit zone scores are in
+    (get_or_default cells f _ d within)) c.cut_exact.ensures.exact limit zone scores are in
     let Cells : List Cell → Type 0 = λ cs. AreCellsOf cs new in
     let Ends_of : List (List Score) → Type 0 = λ o. AreEnds c.args.fixtures.now o
     c.replace.new.ends in (
       subst Cells (sym c.replace.ensures.cells) cut,
       subst Ends_of (one_more limit zone literal scores f inside on)
           (c.replace.ensures.ends old (get_or new f []) are ends_are
-          (cell_set cells f c.mend.new.self new within cut)),
+          (cell_set cells f c.cut_exact.new.self new within cut)),
     )
 
 pub returns-in-None : goal.returns-in-None

@@ -1,6 +1,0 @@
-use Rattle.cert_text.proofs.PlainFormLemmas.{low_at_end}
-use Rattle.cert_text.proofs.plain_form.low.Goals as goal
-
-pub returns-in-Some : goal.returns-in-Some
-returns-in-Some c =
-    low_at_end c.args.text.now c.in-Some.set (rw c.in-Some.is at c.in_ok-set.ensures)
