@@ -5,9 +5,9 @@
 //! reads a proof line back (`specs/Forms.antt`). Which lists of lines are trees and examples stands
 //! in `specs/TreeLines.antt` and `specs/ExampleLines.antt`.
 //!
-//! Proof lines name fixtures and clubs of a league. What reads one at a place (`places`), in a text
-//! (`plain_number`, `plain_test`) or as the test of a line (`test_below`) takes how many there are,
-//! so that it serves lines that name more of them.
+//! Proof lines name fixtures and clubs of a league. What reads one at a place (`places`) or as the
+//! test of a line (`test_below`) takes how many there are, so that it serves lines that name more
+//! of them.
 #![tactic(auto)]
 
 mod forms;
@@ -16,9 +16,9 @@ mod line;
 pub mod places;
 mod plain_form;
 mod plain_node;
-pub mod plain_number;
+mod plain_number;
 mod plain_row;
-pub mod plain_test;
+mod plain_test;
 mod proof_line;
 mod range;
 mod reader;

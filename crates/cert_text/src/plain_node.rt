@@ -1,5 +1,5 @@
 //! The lines of trees out of their own texts, byte by byte and without memory. Nearly all lines of
-//! a report, and of a saved text, are such lines.
+//! a saved text are such lines.
 
 ghost use Rattle.std.specs.Prelude.{◌≡◌, IfSome, false, codes};
 ghost use Rattle.cert_text.specs.inside.PlainForms.{IsLineOfNode, IsReasonAtEnd, IsSetAtEnd};
@@ -10,8 +10,8 @@ use crate::plain_test::test;
 use league_core::limits::{MOST_CLUBS, MOST_FIXTURES};
 use league_core::{Reason, TreeNode};
 
-/// The node whose own line this is, as a tree has it whose new nodes are marked; no node that a
-/// worker holds. It may find nothing in another text of a line.
+/// The node whose own line this is, in a tree whose new nodes are marked; never one that a worker
+/// holds. Nothing may be found in another text of a line.
 #[inline(always)]
 pub fn node_in_line(text: &[u8]) -> Option<TreeNode>
     ensures { IfSome result (IsLineOfNode text.now) }

@@ -102,7 +102,7 @@ pub fn clubs_at_end(alloc: Global, text: &[u8], most: u8) -> Result<Option<Vec<u
     }
 }
 
-/// The set of clubs of a league whose list ends a line.
+/// The set of the clubs, in rising order, whose list ends a line.
 pub fn cut_at_end(text: &[u8]) -> Option<ClubSet>
     ensures { IfSome result (IsSetAtEnd text.now) }
 {

@@ -12,5 +12,5 @@ mod tree_line;
 
 pub use ranges::{is_reason_for, is_test_for, is_wide_reason_for};
 pub use row_word::RowWord;
-pub use token::{Token, counts, read_token, token_at};
+pub use token::{Token, begins_proof, counts, read_token, token_at};
 pub use tree_line::{TreeKind, node_of, spent_node_in, wide_node_of};

@@ -32,8 +32,8 @@ pub fn node_of(kind: TreeKind, token: &Token) -> Option<TreeNode>
     }
 }
 
-/// The node of a spent tree whose own line a text is: its token stands for that node, and is not
-/// made. It may find nothing in another text of such a line.
+/// The node that a text stands for in a spent tree, if it is the node's own line; no token is made
+/// of it. Nothing may be found in another text of such a line.
 #[inline(always)]
 pub fn spent_node_in(text: &[u8]) -> Option<TreeNode>
     ensures { IfSome result (λ node.

@@ -3,7 +3,7 @@
 //!
 //! They stand in a room of fixed size, so no call takes memory. A text stays where it was read: it
 //! and what is in hand of a line are moved to the start of the room once, before the first read for
-//! that line, and each byte is looked at once however many reads the line takes.
+//! that line, and bytes in which a search found no LF are not searched again after a read.
 
 ghost use Rattle.std.specs.Prelude.{◌≡◌, ◌+◌, ◌<◌, ◌≤◌, [], IfOk, MatchOption, drop, length, take};
 ghost use Rattle.std.specs.Io.KnownBytes.{prepend_known};
@@ -19,7 +19,7 @@ use league_core::OutOfMemory;
 use std::alloc::Global;
 use std::marker::Model;
 
-/// How many bytes may be in hand.
+/// How many bytes the room has, for the text last given and those in hand.
 pub const ROOM: usize = 8192;
 
 /// What came of the wait for a line: its end stands at a place, or the input ended, or the source
@@ -112,7 +112,8 @@ impl Buffer {
         self.from += count;
     }
 
-    /// One read, whose bytes come after those in hand; there are at most `most` in hand then.
+    /// One read, whose bytes come after those in hand; there are at most `most` in hand then. It
+    /// takes at most what the text and the bytes in hand leave of the room.
     pub fn fill<S: Source>(&mut self, source: &mut S, most: usize) -> Got
         requires short { length self.old.held ≤ LINE_LIMIT }
         requires some { length self.old.held < most }

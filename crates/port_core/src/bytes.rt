@@ -21,8 +21,8 @@ pub fn copy_to_start(into: &mut [u8], text: &[u8])
     into[..text.len()].copy_from_slice(text);
 }
 
-/// Moves the bytes from one place up to another down to a third place, if they do not stand there.
-pub fn move_down(bytes: &mut [u8], from: usize, to: usize, at: usize)
+// Moves the bytes from one place up to another down to a third place, if they do not stand there.
+fn move_down(bytes: &mut [u8], from: usize, to: usize, at: usize)
     requires order { (at ≤ from) × (from ≤ to) }
     requires within { to ≤ length bytes.old }
     ensures moved { take (at + (to - from)) bytes.new

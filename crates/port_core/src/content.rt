@@ -4,8 +4,8 @@ ghost use Rattle.std.specs.Prelude.{◌≡◌, ◌≤◌, ◌==◌, drop, length
 ghost use Rattle.port_core.specs.Contents.{is_skipped, without_mark, without_return};
 ghost use Rattle.port_core.specs.inside.Buffers.{part};
 
-/// From where up to where the text counts: not one CR at its end and, if it begins the input, not
-/// the byte order mark.
+/// From where up to where the text counts: without one CR at its end and, if it begins the input,
+/// without the byte order mark.
 pub fn content_of(text: &[u8], is_first: bool) -> (usize, usize)
     ensures value { part result.0 result.1 text.now
         ≡ (if is_first then without_mark (without_return text.now) else without_return text.now) }

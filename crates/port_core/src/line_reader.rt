@@ -5,7 +5,8 @@
 //!
 //! The reader reads only while no answer is in hand, so it never waits for more input than its
 //! line. A fault loses nothing: what was read stays in hand. A line costs a look at its bytes; its
-//! content is not copied, but stays where it was read until the next read.
+//! content is not copied, but stays where it was read. The next read moves it, with what is in
+//! hand, to the start of the room, and takes at most what they leave.
 
 ghost use Rattle.std.specs.Prelude.{◌≡◌, ◌+◌, ◌-◌, ◌<◌, ◌≤◌, [], IfOk, Ok, length, option_map};
 ghost use Rattle.port_core.specs.Contents.{input_limit, number_at, start};

@@ -21,6 +21,7 @@ unmarked bytes marks within is none = λ place low below passes.
     (none_from_empty_mask (λ x. eqb x 10) bytes 0 32 0 within (sym is ∙ none) place low below)
     passes
 
+-- with a mark, the lowest one stands for the first LF
 marked-by : (bytes : List ℕ) → 32 ≤ length bytes
     → 0 < mask_l (map (λ x. eqb x 10) (chunk 0 32 bytes))
     → IsFirst (Passes (is_byte 10) bytes) 0 32
