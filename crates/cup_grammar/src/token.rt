@@ -12,7 +12,7 @@ use cup_text::{CupLine, read_cup_line};
 use fixture_sheet::Fields;
 use kept_lines::LineList;
 use league_core::OutOfMemory;
-use line_tokens::{Token, read_token};
+use line_tokens::{Token, begins_proof, read_token};
 use std::alloc::Global;
 
 /// A line of a report on a cup, read alone.
@@ -32,19 +32,10 @@ pub enum CupToken {
 pub fn read_cup_token(alloc: Global, text: &[u8]) -> Result<CupToken, OutOfMemory>
     ensures { IfOk result (λ token. token ≡ cup_token_of text.now) }
 {
-    if is_proof(text) {
+    if begins_proof(text) {
         proof_token(alloc, text)
     } else {
         row_token(alloc, text)
-    }
-}
-
-fn is_proof(text: &[u8]) -> bool
-    ensures { result ≡ begins_proof text.now }
-{
-    match text {
-        [first, ..] => *first == b'[',
-        [] => false,
     }
 }
 
