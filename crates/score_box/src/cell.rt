@@ -11,7 +11,7 @@ ghost use Rattle.score_box.specs.inside.Cells.{with_outcomes};
 mod exact;
 mod goals;
 
-pub use goals::{ScoreRange, at_most_one};
+pub use goals::ScoreRange;
 use league_core::{Literal, Score, Test};
 
 /// A set of scores: those whose outcome is kept and whose goals are in the two ranges. Contracts

@@ -131,15 +131,9 @@ fn several_outcomes(cells: &[Cell]) -> usize
 {
     let mut count = 0;
     for cell in cells {
-        count += one_if(!cell.left().are_one());
+        count += cell.left().worth().several;
     }
     count
-}
-
-fn one_if(counts: bool) -> usize
-    ensures { result ≡ (if counts then 1 else 0) }
-{
-    if counts { 1 } else { 0 }
 }
 
 /// Puts a cell in the place of another, and moves the ends on.
@@ -187,12 +181,13 @@ fn move_ends(ends: &mut Ends, fixtures: &[Fixture], number: u16, was: &Cell, now
 }
 
 // A count to which one number is added in place of another.
-fn moved_count(count: usize, was: u16, now: u16) -> usize
+fn moved_count(count: usize, was: usize, now: usize) -> usize
     requires few { count ≤ most_fixtures }
     requires counted { was ≤ count }
+    requires one { now ≤ 1 }
     ensures { result + was ≡ count + now }
 {
-    count + usize::from(now) - usize::from(was)
+    count + now - was
 }
 
 // Moves the numbers of a match's two clubs, from what its cell left them to what it leaves now.

@@ -24,4 +24,4 @@ pub use own::{own_least, own_most};
 pub use played::Played;
 pub use points::{MatchPoints, OutcomesLeft, PointRange};
 pub use totals::Totals;
-pub use zone_box::ZoneBox;
+pub use zone_box::{HalvesWithFinish, ZoneBox};

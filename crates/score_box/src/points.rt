@@ -26,7 +26,8 @@ pub use left::OutcomesLeft;
 pub use outcomes::MatchPoints;
 pub(crate) use worth::Worth;
 
-/// The least and the most points that a set of clubs can have together.
+/// Two numbers of points, for the least and for the most: those that a set of clubs can have
+/// together, or what is added to them. Of what is added the first may be the greater.
 #[derive(Clone, Copy, Debug, PartialEq, Eq)]
 pub struct PointRange {
     pub least: i32,

@@ -16,6 +16,7 @@ ghost use Rattle.score_box.specs.inside.ZoneBoxViews.{HasFinish};
 ghost use Rattle.score_box.specs.inside.Points.{most_taken_off};
 
 mod build;
+mod halves;
 mod looks;
 mod path;
 
@@ -28,6 +29,7 @@ use crate::points::{self, PointRange};
 use crate::tables::Tables;
 use crate::trail::Undo;
 pub use build::{fixture_of, season_cells};
+pub use halves::HalvesWithFinish;
 use league_core::{ClubSet, Literal, OutOfMemory, Score, Season, Sheet, Zone};
 use std::alloc::Global;
 use std::marker::Model;

@@ -41,8 +41,8 @@ pub fn by_value(rival: i32, club: i32) -> Sure
     }
 }
 
-/// If one step leaves the two level, the next decides.
-pub fn then(first: Sure, next: Sure) -> Sure
+// If one step leaves the two level, the next decides.
+fn then(first: Sure, next: Sure) -> Sure
     ensures { result ≡ sure_then first next }
 {
     match first {

@@ -1,5 +1,5 @@
-//! Tables of the clubs' sums over the matches that are played, by looks at what a box keeps. A
-//! table is its user's: it is filled in place.
+//! Tables of the clubs' sums over the matches that are played, by looks at what a box keeps. The
+//! caller has the table, and it is filled in place.
 
 ghost use Rattle.std.specs.Prelude.{◌≡◌, ◌<◌, ℕ, true, length};
 ghost use Rattle.league_core.specs.game.Sums.{has_club, worth_to, worth_among};

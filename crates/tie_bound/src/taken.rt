@@ -15,8 +15,8 @@ use crate::parts::Parts;
 use crate::sums::{Sums, row, sums_at};
 use league_core::{ClubSet, Sheet, Sure};
 
-/// The answers after a step for the clubs of a group, and whether it is sure of each of them
-/// whether it shares the one's parts.
+/// The answers after a step for the clubs of a group, and whether it is sure of each of them if it
+/// shares the one's parts.
 #[derive(Clone, Copy)]
 pub struct Taken {
     pub answers: Answers,

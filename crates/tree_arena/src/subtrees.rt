@@ -44,7 +44,7 @@ pub struct Look {
 
 impl<'a> Subtrees<'a> {
     /// The trees below these nodes.
-    pub fn of(nodes: &'a [Node]) -> Subtrees<'a>
+    pub(crate) fn of(nodes: &'a [Node]) -> Subtrees<'a>
         requires within { AllWithin nodes.now }
         requires few { length nodes.now ≤ MOST_NUMBERS }
         ensures { result ≡ shapes nodes.now }

@@ -271,7 +271,8 @@ impl Tree {
         }
     }
 
-    /// As `of_nodes`, of the list of a tree, which is not looked at for that.
+    /// The tree of a list that is a tree's; that it is one is not tested. Its open leaves are lent
+    /// as in `of_nodes`.
     pub fn of_preorder(alloc: Global, list: &[TreeNode]) -> Result<Tree, OutOfMemory>
         requires few { length list.now ≤ most_nodes }
         requires some { IsTrue (is_some (tree_of list.now)) }

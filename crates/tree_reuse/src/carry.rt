@@ -37,10 +37,10 @@ fn halves(zone_box: &ZoneBox, test: Test) -> Halves
     if let Test::Rival { .. } = test {
         return Halves::Both;
     }
-    if !zone_box.has_finish_with(Literal { test, yes: true }) {
-        return Halves::NoAlone;
-    }
-    if zone_box.has_finish_with(Literal { test, yes: false }) {
+    let with_finish = zone_box.halves_with_finish(test);
+    if !with_finish.yes {
+        Halves::NoAlone
+    } else if with_finish.no {
         Halves::Both
     } else {
         Halves::YesAlone
@@ -187,8 +187,9 @@ fn take_part(
     keep_node(zone_box, question, &look, parts, found)
 }
 
-/// The list of what the season of the box leaves of a tree, whatever its length. One look at each
-/// node. The box is one without a literal, and so it is again.
+/// The list of what the season of the box leaves of a tree, whatever its length. At most one look
+/// at each node: what is below a half that goes is passed over. The box is one without a literal,
+/// and so it is again.
 pub fn carry(
     alloc: Global,
     zone_box: &mut ZoneBox,

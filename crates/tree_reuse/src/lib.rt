@@ -2,7 +2,7 @@
 //!
 //! Trees are those of `tree_arena`, and are seen as the one of league_core's
 //! `specs/search/Trees.antt`. Read `specs/Retargets.antt` first, and
-//! `specs/inside/Carrying.antt` for how a tree's list is gone through.
+//! `specs/inside/Carrying.antt` for how a tree's nodes are gone through.
 #![tactic(auto)]
 
 mod box_moves;

@@ -14,8 +14,8 @@ use std::alloc::Global;
 use tree_arena::Tree;
 
 /// What the season leaves of a tree: refuted leaves whose reasons still hold, and the splits above
-/// them; a tree of more than 100,001 nodes is one open leaf. One look at each node; for a tree that
-/// is one open leaf nothing of the season is looked at.
+/// them; a tree of more than 100,001 nodes is one open leaf. At most one look at each node; for a
+/// tree that is one open leaf nothing of the season is looked at.
 pub fn retarget(
     alloc: Global,
     sheet: &Sheet,

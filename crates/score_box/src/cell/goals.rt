@@ -174,7 +174,7 @@ fn are_at(goals: Option<ScoreRange>, score: &Score) -> bool
     }
 }
 
-pub fn at_most_one(first: bool, second: bool, third: bool) -> bool
+fn at_most_one(first: bool, second: bool, third: bool) -> bool
     ensures { result ≡ at_most_one first second third }
 {
     !(first && second) && !(first && third) && !(second && third)

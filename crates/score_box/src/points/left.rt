@@ -1,14 +1,14 @@
 //! Which outcomes a cell has left, looked up once for all that rests on them.
 
-ghost use Rattle.std.specs.Prelude.{◌≡◌, ◌||◌, not, true, false, pos, neg_ℤ, ◌≤ℤ◌, List};
+ghost use Rattle.std.specs.Prelude.{◌≡◌, ◌||◌, not, pos, neg_ℤ, ◌≤ℤ◌, List};
 ghost use Rattle.league_core.specs.declared.season.Score.{Score};
 ghost use Rattle.score_box.specs.declared.cell.Cell.{Cell};
-ghost use Rattle.score_box.specs.inside.Cells.{at_most_one, IsCellOf};
+ghost use Rattle.score_box.specs.inside.Cells.{IsCellOf};
 ghost use Rattle.score_box.specs.inside.Points.{AreOutcomesLeft, IsPointsOf, beyond_sides};
 
 use super::PointRange;
 use super::outcomes::{MatchPoints, least_of, most_of};
-use crate::cell::{Cell, at_most_one};
+use crate::cell::Cell;
 
 /// Whether a cell has a home win, a draw, an away win.
 #[derive(Clone, Copy)]
@@ -38,13 +38,6 @@ impl OutcomesLeft {
         ensures { result ≡ not (self.home_win || self.draw || self.away_win) }
     {
         !(self.home_win || self.draw || self.away_win)
-    }
-
-    /// The cell's scores have one outcome, or it has none.
-    pub fn are_one(self) -> bool
-        ensures { result ≡ at_most_one self.home_win self.draw self.away_win }
-    {
-        at_most_one(self.home_win, self.draw, self.away_win)
     }
 
     /// What the cell leaves to the sides that count; nothing if no score is left.

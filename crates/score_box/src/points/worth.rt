@@ -8,14 +8,15 @@ ghost use Rattle.score_box.specs.inside.Points.{AreOutcomesLeft, AreWorth};
 use super::left::OutcomesLeft;
 use super::outcomes::MatchPoints;
 
-/// What a fixture leaves each of its sides alone, and whether it counts, as 1 or 0, as one without
-/// a score and as one with scores of several outcomes.
+/// What a fixture leaves each of its sides alone; `empty` is 1 if it has no score left, `several`
+/// if it has scores of several outcomes, and else they are 0. They are as wide as the counts that
+/// they are added to: so a row is read number by number, and not taken apart out of one word.
 #[derive(Clone, Copy)]
 pub struct Worth {
     pub home: MatchPoints,
     pub away: MatchPoints,
-    pub empty: u16,
-    pub several: u16,
+    pub empty: usize,
+    pub several: usize,
 }
 
 // By the outcomes that are left: 1 for a home win, 2 for a draw and 4 for an away win, added.

@@ -2,16 +2,12 @@
 //! takes the steps of one cell, however long the zone.
 
 ghost use Rattle.std.specs.Prelude.{◌≡◌, ◌≢◌, ◌≤◌, ◌++◌, ℕ, true, IsTrue, OnOk, OnErr, [], ◌∷◌};
-ghost use Rattle.std.specs.Prelude.{length, List, ◌&&◌};
+ghost use Rattle.std.specs.Prelude.{length};
 ghost use Rattle.std.specs.List.{All};
 ghost use Rattle.league_core.specs.game.Limits.{most_fixtures, set_width};
-ghost use Rattle.league_core.specs.declared.sheet.Sheet.{Sheet};
-ghost use Rattle.league_core.specs.declared.zone.Literal.{Literal};
-ghost use Rattle.league_core.specs.game.Results.{Results};
-ghost use Rattle.league_core.specs.search.Options.{has_finish, options_in};
 ghost use Rattle.league_core.specs.search.Zones.{is_on, is_test_of, is_zone_of};
 ghost use Rattle.score_box.specs.inside.Cells.{IsExactCell};
-ghost use Rattle.score_box.specs.inside.Boxes.{AreCellsOf, IsTestBelow};
+ghost use Rattle.score_box.specs.inside.Boxes.{IsTestBelow};
 ghost use Rattle.score_box.specs.inside.Ends.{HasEndsOfCells, IsMatch};
 ghost use Rattle.score_box.specs.inside.PlayedViews.{TakesOneMore, TakesOneLess};
 
@@ -39,16 +35,6 @@ impl<'a> ZoneBox<'a> {
         take_one(&mut self.cells, &mut self.ends, fixtures, &literal);
         self.marks = self.marks.with(&literal);
         Ok(())
-    }
-
-    /// The zone with a literal at its end would have a finish. It takes no memory.
-    pub fn has_finish_with(&self, literal: Literal) -> bool
-        requires { IsTrue (is_test_of self.now.sheet literal.test) }
-        ensures { result
-            ≡ has_finish self.now.sheet self.now.season (self.now.zone ++ literal ∷ []) }
-    {
-        let leaves = leaves_score(&self.cells, &literal);
-        self.ends.empty == 0 && leaves
     }
 
     /// Puts these literals at the end of the zone, one after the other.
@@ -82,25 +68,6 @@ impl<'a> ZoneBox<'a> {
         );
         self.marks = undo.marks;
         literal
-    }
-}
-
-// The fixture that a literal is of, if it is of one, has a score left where the literal is true.
-fn leaves_score(cells: &[Cell], literal: &Literal) -> bool
-    requires in_range { IsTestBelow (length cells.now) set_width literal.now.test }
-    requires exact { All IsExactCell cells.now }
-    ensures { (sheet : Sheet) (season : Results) (zone : List Literal)
-        → AreCellsOf cells.now (options_in sheet season zone)
-        → (has_finish sheet season zone && result)
-        ≡ has_finish sheet season (zone ++ literal.now ∷ []) }
-{
-    match fixture_of(&literal.test) {
-        Some(fixture) => {
-            let mut cell = cells[fixture as usize];
-            cell.cut_exact(literal);
-            !cell.left().are_none()
-        }
-        None => true,
     }
 }
 

@@ -1,5 +1,5 @@
--- How a tree is carried over as a list: its nodes are gone through from the root on, with the parts
--- that are still to come on a stack.
+-- How a tree is carried over: the nodes that may stay are gone through from the root on, with the
+-- parts that are still to come on a stack.
 use Rattle.std.specs.Prelude.{◌≡◌, ℕ, ◌+◌, ◌≤◌, ◌<◌, Bool, true, false, IsTrue, List, [], ◌∷◌, ◌++◌}
 use Rattle.std.specs.Prelude.{length, Option, Some, None}
 use Rattle.league_core.specs.declared.sheet.Sheet.{Sheet}

@@ -8,7 +8,7 @@ use Rattle.league_core.specs.search.Options.{has_finish}
 use Rattle.score_box.specs.inside.Cells.{allows}
 use Rattle.score_box.proofs.BoxLemmas.{takes_cut, takes_mark, finish_cut, finish_same}
 use Rattle.score_box.proofs.LeftLemmas.{none_left, left_none}
-use Rattle.score_box.proofs.zone_box.path.leaves_score.Goals as goal
+use Rattle.score_box.proofs.zone_box.halves.leaves_score.Goals as goal
 
 pub bounds-cells-fixture : goal.bounds-cells-fixture
 bounds-cells-fixture c = c.in-Some.ensures.some.2 (length c.args.cells.now) c.requires.in_range
