@@ -62,6 +62,7 @@ slice_get-last : (trees : List (Option Tree)) (tree : Option Tree)
 slice_get-last [] tree = refl
 slice_get-last (other ∷ trees) tree = slice_get-last trees tree
 
+-- what stands in a list stands there with one more at its end
 slice_get-before : (trees : List (Option Tree)) (tree own : Option Tree) (place : ℕ)
     → slice_get trees place ≡ Some own
     → (place < length trees) × (slice_get (trees ++ tree ∷ []) place ≡ Some own)
@@ -87,6 +88,7 @@ pub record IsLast (sheet : Sheet) (seats : List QuestionState) (rest : List (Opt
   pub own : (seat : QuestionState) → slice_get seats (length rest) ≡ Some seat
       → IfSome tree (λ it. MayBeAdopted sheet it seat)
 
+-- so it is if the trees may be adopted
 pub last_left : (sheet : Sheet) (seats : List QuestionState) (trees rest : List (Option Tree))
     (tree : Option Tree) → AreAdoptable sheet seats trees → trees ≡ rest ++ tree ∷ []
     → IsLast sheet seats rest tree
@@ -173,6 +175,7 @@ asked-adopted sheet season (seat ∷ seats) (None ∷ trees) =
 asked-adopted sheet season (seat ∷ seats) (Some tree ∷ trees) =
     ap (λ qs. seat.question ∷ qs) (asked-adopted sheet season seats trees)
 
+-- there are as many questions
 length-adopted : (sheet : Sheet) (season : Results) (seats : List QuestionState)
     (trees : List (Option Tree))
     → length (seats_adopted sheet season seats trees) ≡ length seats
@@ -191,6 +194,7 @@ record WasBefore (sheet : Sheet) (season : Results) (seats : List QuestionState)
   own : IfSome tree (λ it. slice_get trees place ≡ Some (Some it))
   is : seat_adopted_if sheet season tree seat ≡ new
 
+-- each was one before
 was_before : (sheet : Sheet) (season : Results) (seats : List QuestionState)
     (trees : List (Option Tree)) (place : ℕ) (new : QuestionState)
     → slice_get (seats_adopted sheet season seats trees) place ≡ Some new

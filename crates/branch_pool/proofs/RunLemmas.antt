@@ -29,14 +29,15 @@ use Rattle.branch_pool.specs.inside.Steps.{TakesLeaf, Keeps, seat_lent, seat_aft
 use Rattle.branch_pool.specs.inside.Goodness.{IsSoundPool, IsGood, IsGoodSeat}
 use Rattle.branch_pool.specs.inside.Calls.{pool_answer, answer_of}
 use Rattle.branch_pool.specs.inside.Runs.{Step, take_step, give_step, change_step, start_step}
-use Rattle.branch_pool.specs.inside.Runs.{shut_step, recall_step, adopt_step, MakesStep, Move}
-use Rattle.branch_pool.specs.inside.Runs.{AreSteps, pool_after, IsWorked, WorksNext, seat_left}
-use Rattle.branch_pool.specs.inside.Runs.{work_left}
+use Rattle.branch_pool.specs.inside.Runs.{shut_step, recall_step, adopt_step, adopt_all_step}
+use Rattle.branch_pool.specs.inside.Runs.{MakesStep, Move, AreSteps, pool_after, IsWorked}
+use Rattle.branch_pool.specs.inside.Runs.{WorksNext, seat_left, work_left}
 use Rattle.branch_pool.proofs.QuestionStateLemmas.{workable_within}
 use Rattle.branch_pool.proofs.GoodLemmas.{sound_is_good, none_lent_at}
 use Rattle.branch_pool.proofs.StepLemmas.{begun_sound, taken_sound, given_sound, kept_sound}
 use Rattle.branch_pool.proofs.StepLemmas.{changed_sound, opened_sound, shut_sound, recalled_sound}
 use Rattle.branch_pool.proofs.AdoptLemmas.{adopted_sound}
+use Rattle.branch_pool.proofs.AdoptAllLemmas.{all_adopted_sound}
 use Rattle.league_core.proofs.plain.Slots.{All-at, set_twice, slice_get-set_same, none_at}
 
 -- ---- steps
@@ -55,6 +56,8 @@ step_sound old recall_step new sound leads = subst IsSoundPool (sym leads) (reca
     sound)
 step_sound old (adopt_step place tree) new sound leads = adopted_sound old place tree new sound
     leads
+step_sound old (adopt_all_step trees) new sound leads =
+    subst IsSoundPool (sym leads.1) (all_adopted_sound old trees sound leads.0)
 
 -- and so do all of a list
 pub steps_sound : (pool : PoolView) (moves : List Move) → IsSoundPool pool → AreSteps pool moves

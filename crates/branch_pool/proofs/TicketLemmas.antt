@@ -19,7 +19,8 @@ use Rattle.branch_pool.specs.inside.Steps.{TakesLeaf, loan_of, seat_lent, IsPres
 use Rattle.branch_pool.specs.inside.Steps.{MayBeGiven, Gives}
 use Rattle.branch_pool.specs.inside.Goodness.{IsSoundPool}
 use Rattle.branch_pool.specs.inside.Runs.{Step, take_step, give_step, change_step, start_step}
-use Rattle.branch_pool.specs.inside.Runs.{shut_step, recall_step, adopt_step, MakesStep, LeavesOut}
+use Rattle.branch_pool.specs.inside.Runs.{shut_step, recall_step, adopt_step, adopt_all_step}
+use Rattle.branch_pool.specs.inside.Runs.{MakesStep, LeavesOut}
 use Rattle.branch_pool.proofs.SlotLemmas.{loan_at-free, free_number-le, loan_at-with_same}
 use Rattle.branch_pool.proofs.SlotLemmas.{loan_at-with_other}
 use Rattle.branch_pool.proofs.GoodLemmas.{asked_there}
@@ -176,3 +177,9 @@ stays_over_step old new (adopt_step place tree) ticket sound leads left own =
     (ap (λ (pool : PoolView). pool.season) leads.after)
     (ap (λ (pool : PoolView). pool.questions) leads.after)
     (ap (λ (pool : PoolView). loan_at pool.loans ticket.number) leads.after) own
+stays_over_step old new (adopt_all_step trees) ticket sound leads left own =
+    stays_own old new ticket sound (step_sound old (adopt_all_step trees) new sound leads)
+    (ap (λ (pool : PoolView). pool.log) leads.1)
+    (ap (λ (pool : PoolView). pool.season) leads.1)
+    (ap (λ (pool : PoolView). pool.questions) leads.1)
+    (ap (λ (pool : PoolView). loan_at pool.loans ticket.number) leads.1) own

@@ -34,6 +34,7 @@ tree_there IsFor (question ∷ asked) (other ∷ trees) zero tree all is =
 tree_there IsFor (question ∷ asked) (other ∷ trees) (suc place) tree all is =
     tree_there IsFor asked trees place tree all.1 is
 
+-- so a pool may adopt them, if nothing is out
 pub may_adopt_all : (pool : PoolView) (trees : List (Option Tree)) → out_count pool.loans ≡ 0
     → AreAskedTrees pool.sheet pool.questions trees → MayAdoptAll pool trees
 may_adopt_all pool trees home all = record {

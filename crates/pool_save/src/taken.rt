@@ -1,4 +1,4 @@
-//! What a line of a saved text does.
+//! What comes of a line of a saved text.
 
 /// What a line makes of what is read so far.
 #[derive(Clone, Copy, PartialEq, Eq, Debug)]

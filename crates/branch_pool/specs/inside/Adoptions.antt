@@ -14,7 +14,8 @@ abbrev pub seat_adopted_if : Sheet → Results → Option Tree → QuestionState
 seat_adopted_if sheet season None seat = seat
 seat_adopted_if sheet season (Some tree) seat = seat_adopted sheet season tree seat
 
--- each question with its own, place by place; a question past the end of the list is as it was
+-- each question with what its season leaves of the tree at its place, if there is one; a question
+-- past the end of the list is as it was
 abbrev pub seats_adopted : Sheet → Results → List QuestionState → List (Option Tree)
     → List QuestionState
 seats_adopted sheet season seats [] = seats
@@ -41,7 +42,7 @@ pub record MayBeAdopted (sheet : Sheet) (tree : Tree) (seat : QuestionState) : T
   pub club : seat.question.club < length sheet.clubs
   pub asked : IsAskedTree sheet seat.question tree
 
--- the question at the place of each tree of a list is one for it
+-- there are no more trees than questions, and the question at the place of each is one for it
 pub record AreAdoptable (sheet : Sheet) (seats : List QuestionState) (trees : List (Option Tree))
     : Type 0 where
   pub few : length trees ≤ length seats

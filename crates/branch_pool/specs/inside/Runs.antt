@@ -1,7 +1,7 @@
 -- Lists of steps, as they happen to one pool; what one turn of work without a ticket does; and what
 -- there is left to do.
 use Rattle.std.specs.Prelude.{◌≡◌, ◌≢◌, ℕ, suc, ◌-◌, IsTrue, Bool, true, false, List, [], ◌∷◌}
-use Rattle.std.specs.Prelude.{sum_by, is_some, if◌then◌else◌}
+use Rattle.std.specs.Prelude.{sum_by, is_some, if◌then◌else◌, Option}
 use Rattle.league_core.specs.declared.season.Event.{Event}
 use Rattle.league_core.specs.search.Trees.{Tree}
 use Rattle.reason_core.specs.declared.done.Done.{Done}
@@ -15,6 +15,7 @@ use Rattle.branch_pool.specs.inside.States.{PoolView, has_work, out_count}
 use Rattle.branch_pool.specs.inside.Calls.{LendsNext}
 use Rattle.branch_pool.specs.inside.Steps.{TakesLeaf, Gives, Keeps, MayBeGiven, Changes}
 use Rattle.branch_pool.specs.inside.Steps.{pool_opened, pool_shut, pool_recalled, Adopts}
+use Rattle.branch_pool.specs.inside.Adoptions.{MayAdoptAll, pool_adopted}
 
 -- ---- lists of steps
 
@@ -27,6 +28,7 @@ pub data Step : Type 0 where
   shut_step : Step
   recall_step : Step
   adopt_step : ℕ → Tree → Step
+  adopt_all_step : List (Option Tree) → Step
 
 -- the step leads from a pool to a pool
 abbrev pub MakesStep : PoolView → Step → PoolView → Type 0
@@ -39,6 +41,7 @@ MakesStep old start_step new = new ≡ pool_opened old
 MakesStep old shut_step new = new ≡ pool_shut old
 MakesStep old recall_step new = new ≡ pool_recalled old
 MakesStep old (adopt_step place tree) new = Adopts old place tree new
+MakesStep old (adopt_all_step trees) new = MayAdoptAll old trees × (new ≡ pool_adopted old trees)
 
 -- a step, and the pool after it
 pub record Move : Type 0 where
@@ -65,6 +68,7 @@ LeavesOut number start_step = Unit {0}
 LeavesOut number shut_step = Unit {0}
 LeavesOut number recall_step = ⊥
 LeavesOut number (adopt_step place tree) = Unit {0}
+LeavesOut number (adopt_all_step trees) = Unit {0}
 
 -- the step takes or gives
 abbrev pub is_work : Step → Bool
@@ -75,6 +79,7 @@ is_work start_step = false
 is_work shut_step = false
 is_work recall_step = false
 is_work (adopt_step place tree) = false
+is_work (adopt_all_step trees) = false
 
 -- each step takes or gives
 abbrev pub AreAllWork : List Move → Type 0
