@@ -16,7 +16,7 @@ export PYTHONPATH=$home/bench/shared:$home/tools PYTHONDONTWRITEBYTECODE=1
 # all that a pool of questions and its search stand on
 search=(league_core port_core tie_criteria final_rank fixture_sheet result_log sample_leagues
     flow_net score_box reason_laws flow_bound tie_bound reason_core tree_arena tree_reuse
-    example_finish local_search branch_rules branch_pool cert_text verdict_run)
+    example_finish local_search branch_rules branch_pool cert_text answer_rows)
 
 # puts the whole program into `program`: that of FUTMAX, or of this repository
 take_whole_program() {
