@@ -14,6 +14,8 @@ mod open_matches;
 mod own;
 mod played;
 mod points;
+mod season_cells;
+mod set_points;
 mod tables;
 mod totals;
 mod trail;

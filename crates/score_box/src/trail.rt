@@ -8,7 +8,7 @@ ghost use Rattle.score_box.specs.inside.Boxes.{IsTestBelow};
 
 use crate::cell::Cell;
 use crate::marks::Marks;
-use crate::zone_box::fixture_of;
+use crate::season_cells::fixture_of;
 use league_core::{Literal, OutOfMemory};
 
 /// What stood before a literal: the cell of the fixture that it is on, and the marks.

@@ -15,7 +15,6 @@ ghost use Rattle.score_box.specs.inside.Boxes.{IsSetOf};
 ghost use Rattle.score_box.specs.inside.ZoneBoxViews.{HasFinish};
 ghost use Rattle.score_box.specs.inside.Points.{most_taken_off};
 
-mod build;
 mod halves;
 mod looks;
 mod path;
@@ -25,10 +24,10 @@ use crate::ends::Ends;
 use crate::marks::Marks;
 use crate::open_matches::OpenMatches;
 use crate::played::Played;
-use crate::points::{self, PointRange};
+use crate::points::PointRange;
+use crate::set_points;
 use crate::tables::Tables;
 use crate::trail::Undo;
-pub use build::{fixture_of, season_cells};
 pub use halves::HalvesWithFinish;
 use league_core::{ClubSet, Literal, OutOfMemory, Score, Season, Sheet, Zone};
 use std::alloc::Global;
@@ -171,8 +170,8 @@ impl<'a> ZoneBox<'a> {
         ensures in_order { result.least ≤ℤ result.most }
         ensures within { (neg_ℤ most_taken_off ≤ℤ result.least) × (result.most ≤ℤ most_points) }
     {
-        let alone = points::alone(&self.ends, self.season.deductions(), set);
-        let beyond = points::beyond(&self.open_matches, &self.cells, set);
+        let alone = set_points::alone(&self.ends, self.season.deductions(), set);
+        let beyond = set_points::beyond(&self.open_matches, &self.cells, set);
         alone.with(beyond)
     }
 

@@ -13,8 +13,8 @@ ghost use Rattle.score_box.specs.inside.Boxes.{AreCellsOf, IsTestBelow};
 ghost use Rattle.score_box.specs.inside.ZoneBoxViews.{AreHalvesLeft};
 
 use super::ZoneBox;
-use super::build::fixture_of;
 use crate::cell::Cell;
+use crate::season_cells::fixture_of;
 use league_core::{Literal, Test};
 
 /// Whether the half of a zone where a test is true has a finish, and whether the other has one.

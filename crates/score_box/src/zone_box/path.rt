@@ -12,9 +12,9 @@ ghost use Rattle.score_box.specs.inside.Ends.{HasEndsOfCells, IsMatch};
 ghost use Rattle.score_box.specs.inside.PlayedViews.{TakesOneMore, TakesOneLess};
 
 use super::ZoneBox;
-use super::build::fixture_of;
 use crate::cell::Cell;
 use crate::ends::{Ends, replace};
+use crate::season_cells::fixture_of;
 use crate::trail::{Undo, cell_on, push_both};
 use league_core::{Fixture, Literal, OutOfMemory};
 

@@ -6,7 +6,7 @@ use Rattle.league_core.proofs.ClubCountLemmas.{few_members}
 use Rattle.league_core.proofs.PointRangeLemmas.{total_of-append}
 use Rattle.league_core.proofs.WalkLemmas.{comes_to, all_seen}
 use Rattle.score_box.specs.inside.Ends.{end_at}
-use Rattle.score_box.proofs.points.alone.Goals as goal
+use Rattle.score_box.proofs.set_points.alone.Goals as goal
 
 pub with-points-requires-clause-least : goal.with-points-requires-clause-least
 with-points-requires-clause-least c =

@@ -6,7 +6,7 @@ use Rattle.league_core.specs.search.Options.{options_from}
 use Rattle.league_core.proofs.OptionLemmas.{length-options_from}
 use Rattle.score_box.specs.inside.Cells.{IsCellOf}
 use Rattle.score_box.proofs.BoxLemmas.{options_push, exact_push, first_options}
-use Rattle.score_box.proofs.zone_box.build.season_cells.Goals as goal
+use Rattle.score_box.proofs.season_cells.season_cells.Goals as goal
 
 pub loop-score-preserved : goal.loop-score-preserved
 loop-score-preserved c =

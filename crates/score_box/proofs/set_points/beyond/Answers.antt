@@ -12,7 +12,7 @@ use Rattle.score_box.specs.inside.OpenSides.{AreSidesOf}
 use Rattle.score_box.specs.inside.Points.{IsBeyondOver, beyond_sides}
 use Rattle.score_box.proofs.BeyondLemmas.{beyond_more, beyond_past}
 use Rattle.score_box.proofs.SplitLemmas.{no_match}
-use Rattle.score_box.proofs.points.beyond.Goals as goal
+use Rattle.score_box.proofs.set_points.beyond.Goals as goal
 
 pub with-points-requires-clause-least : goal.with-points-requires-clause-least
 with-points-requires-clause-least c =

@@ -6,7 +6,7 @@ use Rattle.league_core.specs.game.ClubSets.{clubs_in}
 use Rattle.score_box.specs.inside.Boxes.{IsSetOf}
 use Rattle.score_box.specs.inside.OpenSides.{AreSidesOf, are_of_group, is_side}
 use Rattle.score_box.specs.inside.Points.{IsBeyondOver}
-use Rattle.score_box.proofs.points.beyond.Given as goal
+use Rattle.score_box.proofs.set_points.beyond.Given as goal
 
 -- the place is that of a match that counts, or past the last; what the matches before it add
 abbrev pub invariant-loop-place : goal.invariant-loop-place

@@ -2,7 +2,7 @@ use Rattle.std.proofs.Common.{◌≡◌, ◌*◌, pos, ◌-ℤ◌, ◌≤ℤ◌,
 use Rattle.std.specs.Prelude.{neg_ℤ}
 use Rattle.league_core.specs.search.PointRanges.{total_of}
 use Rattle.score_box.specs.inside.Ends.{end_at}
-use Rattle.score_box.proofs.points.alone.Given as goal
+use Rattle.score_box.proofs.set_points.alone.Given as goal
 
 -- what the clubs so far have
 abbrev pub invariant-loop-club : goal.invariant-loop-club
