@@ -9,6 +9,7 @@
 //! (`network`). Read `specs/inside/Excess.antt` first.
 #![tactic(auto)]
 
+mod bounds;
 mod choice;
 mod cut;
 mod keep;
@@ -21,5 +22,5 @@ mod table;
 mod tally;
 mod worth;
 
-pub use cut::{high_cut, high_cut_from, low_cut, low_cut_from};
+pub use bounds::{high_cut, high_cut_from, low_cut, low_cut_from};
 pub use keep::FlowKeep;

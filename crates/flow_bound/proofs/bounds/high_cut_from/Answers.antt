@@ -14,7 +14,7 @@ use Rattle.flow_bound.proofs.CutLemmas.{chosen_found, high_excess-is, ceiling_fa
 use Rattle.flow_bound.proofs.CutLemmas.{nothing_exceeds, ceiling_unmarked}
 use Rattle.flow_bound.proofs.NeededLemmas.{left_open_is}
 use Rattle.flow_bound.proofs.SetLemmas.{no_club_left}
-use Rattle.flow_bound.proofs.cut.high_cut_from.Goals as goal
+use Rattle.flow_bound.proofs.bounds.high_cut_from.Goals as goal
 use Rattle.league_core.proofs.plain.Options.{err-holds}
 
 pub returns-clause-found : goal.returns-clause-found
