@@ -1,48 +1,14 @@
 //! What one line tells.
 
-ghost use Rattle.std.specs.Prelude.{◌≤◌, IfOk, IfSome, length};
-ghost use Rattle.league_core.specs.game.Seasons.{IsSeasonOf};
+ghost use Rattle.std.specs.Prelude.{IfOk, IfSome};
 ghost use Rattle.result_log.specs.inside.Calls.{AnswersContent};
 ghost use Rattle.result_log.specs.inside.Readings.{MayBeReadIn, MayBeTold};
-ghost use Rattle.result_log.specs.Feeds.{entry_in, parsed_in};
-ghost use Rattle.result_log.specs.Records.{IsEntryAt};
+ghost use Rattle.result_log.specs.Feeds.{parsed_in};
 
-use crate::entries::Entries;
-use crate::entry::Entry;
 use crate::fault::{ContentStop, FeedFault};
 use crate::reading::{Reading, SeasonSoFar};
 use fixture_sheet::{FieldsStop, fields_of};
-use league_core::{Season, Sheet};
 use std::alloc::Global;
-
-/// The entry that the content of a line is, none if no field is left of it, or the first
-/// refusal.
-///
-/// `events` is how many events came before, and `season` is the season after them; `proofs` is
-/// whether proofs may follow the feed.
-pub fn read_content(
-    alloc: Global,
-    sheet: &Sheet,
-    season: &Season,
-    events: u64,
-    proofs: bool,
-    content: &[u8],
-) -> Result<Option<Entry>, ContentStop>
-    requires of_sheet { IsSeasonOf sheet.now season.now }
-    requires clubs { length sheet.now.clubs ≤ 255 }
-    requires numbers { length sheet.now.fixtures ≤ 65535 }
-    ensures answer { AnswersContent (entry_in sheet.now season.now events proofs content.now)
-        result }
-    ensures is_entry { IfOk result (λ found. IfSome found (λ entry.
-        IsEntryAt season.now events proofs entry)) }
-{
-    let at = SeasonSoFar {
-        sheet,
-        season,
-        events,
-    };
-    content_parsed(alloc, &Entries { proofs }, &at, content)
-}
 
 /// What the content of a line tells, none if no field is left of it, or the first refusal.
 pub(crate) fn content_parsed<R: Reading>(

@@ -16,7 +16,6 @@ mod reader;
 mod reading;
 mod record;
 
-pub use content::read_content;
 pub use entries::{Entries, next_entry};
 pub use entry::Entry;
 pub use fault::{ContentStop, FeedFault, FeedStop};
