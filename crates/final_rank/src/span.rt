@@ -1,8 +1,13 @@
 //! The places that a season leaves each club, whatever the lots.
 
-ghost use Rattle.std.specs.Prelude.{◌≡◌, IfOk};
+ghost use Rattle.std.specs.Prelude.{◌≡◌, ◌<◌, ℕ, length, IfOk};
+ghost use Rattle.league_core.specs.declared.sheet.Sheet.{Sheet};
+ghost use Rattle.league_core.specs.game.Results.{Results};
 ghost use Rattle.league_core.specs.game.Seasons.{IsLeague};
-ghost use Rattle.final_rank.specs.inside.Spans.{spans_of};
+ghost use Rattle.league_core.specs.game.Sheets.{IsWithinLimits, clubs_of};
+ghost use Rattle.league_core.specs.inside.LotsFor.{order_without_lots};
+ghost use Rattle.final_rank.specs.inside.Around.{IsAround};
+ghost use Rattle.final_rank.specs.inside.Spans.{span_of, spans_of};
 
 use crate::around::Around;
 use crate::blocks::blocks;
@@ -14,6 +19,21 @@ use std::alloc::Global;
 pub struct PlaceRange {
     pub best: u8,
     pub worst: u8,
+}
+
+impl Around {
+    /// The places of the club that these are around.
+    pub fn span(self) -> PlaceRange
+        ensures { (sheet : Sheet) (season : Results) (club : ℕ)
+            → IsWithinLimits sheet → club < length sheet.clubs
+            → IsAround (order_without_lots sheet season) (clubs_of sheet) club self
+            → result ≡ span_of sheet season club }
+    {
+        PlaceRange {
+            best: 1 + self.ahead.len(),
+            worst: self.ahead.union(self.level).len(),
+        }
+    }
 }
 
 /// The spans of all clubs in this season, in the sheet's order: the clubs are put in blocks once.
