@@ -1,16 +1,17 @@
 //! The fields of one line, as csv reads the line alone.
 
-ghost use Rattle.std.specs.Prelude.{◌≡◌, ◌↔◌, true, [], IfOk, bytes_eq, length, option_map, take};
-ghost use Rattle.std.specs.Prelude.{get_or};
+ghost use Rattle.std.specs.Prelude.{◌≡◌, ◌↔◌, false, true, [], IfOk, bytes_eq, length, option_map};
+ghost use Rattle.std.specs.Prelude.{take, get_or};
 ghost use Rattle.csv.specs.Machine.{next_record};
 ghost use Rattle.csv.specs.Reading.{default_config, strip_bom};
 ghost use Rattle.csv.specs.Records.{fields_of as row_fields};
 ghost use Rattle.csv.specs.declared.parser.State.TheVariants as state;
 ghost use Rattle.fixture_sheet.specs.Fields.{csv_record, field, has_return, is_blank, record_of};
 ghost use Rattle.fixture_sheet.specs.Fields.{without_padding};
+ghost use Rattle.fixture_sheet.specs.inside.PlainLines.{has_sign};
 
 use crate::fault::FieldsStop;
-use crate::plain_line::{has_sign, plain_record};
+use crate::plain_line::{cut_fields, has_sign, without_commas};
 use csv::{ByteRecord, ReaderBuilder};
 use league_core::OutOfMemory;
 use std::alloc::Global;
@@ -81,6 +82,19 @@ fn record_of(alloc: Global, text: &[u8]) -> Result<Option<Fields>, OutOfMemory>
         return record_by_csv(alloc, text);
     }
     plain_record(alloc, text)
+}
+
+// The record of a text in which no byte means more to csv than itself, a comma apart: csv's.
+fn plain_record(alloc: Global, text: &[u8]) -> Result<Option<Fields>, OutOfMemory>
+    requires plain { has_sign text.now ≡ false }
+    ensures { IfOk result (λ fields. fields ≡ record_of text.now) }
+{
+    let counted = without_commas(text);
+    if counted.is_empty() {
+        return Ok(None);
+    }
+    let list = cut_fields(alloc, counted)?;
+    Ok(Some(Fields { list }))
 }
 
 fn record_by_csv(alloc: Global, text: &[u8]) -> Result<Option<Fields>, OutOfMemory>

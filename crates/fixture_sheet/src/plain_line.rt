@@ -1,11 +1,9 @@
 //! Lines that csv reads by their commas alone, cut without csv's reader. It makes a table of 2,048
 //! cells for each text that it reads, and nearly all lines have no quote.
 
-ghost use Rattle.std.specs.Prelude.{◌≡◌, IfOk, false, map};
-ghost use Rattle.fixture_sheet.specs.Fields.{record_of};
+ghost use Rattle.std.specs.Prelude.{◌≡◌, IfOk, map};
 ghost use Rattle.fixture_sheet.specs.inside.PlainLines.{between_commas, has_sign, without_commas};
 
-use crate::fields::Fields;
 use league_core::OutOfMemory;
 use std::alloc::Global;
 
@@ -23,21 +21,8 @@ pub fn has_sign(text: &[u8]) -> bool
         .any(|byte| matches!(*byte, b'"' | b'\r' | b'\n' | MARK))
 }
 
-/// The record of a text without such bytes, the same as csv's.
-pub fn plain_record(alloc: Global, text: &[u8]) -> Result<Option<Fields>, OutOfMemory>
-    requires plain { has_sign text.now ≡ false }
-    ensures { IfOk result (λ fields. fields ≡ record_of text.now) }
-{
-    let counted = without_commas(text);
-    if counted.is_empty() {
-        return Ok(None);
-    }
-    let list = cut_fields(alloc, counted)?;
-    Ok(Some(Fields { list }))
-}
-
-// The commas at the end end empty fields, which do not count.
-fn without_commas(text: &[u8]) -> &[u8]
+/// The text without the commas at its end: they end empty fields, which do not count.
+pub fn without_commas(text: &[u8]) -> &[u8]
     ensures { result.now ≡ without_commas text.now }
 {
     let mut end = 0;
@@ -49,7 +34,8 @@ fn without_commas(text: &[u8]) -> &[u8]
     &text[..end]
 }
 
-fn cut_fields(alloc: Global, text: &[u8]) -> Result<Vec<Vec<u8>>, OutOfMemory>
+/// The fields of a text, between its commas.
+pub fn cut_fields(alloc: Global, text: &[u8]) -> Result<Vec<Vec<u8>>, OutOfMemory>
     ensures { IfOk result (λ list. map (λ bytes. bytes.items) list.items
         ≡ between_commas text.now) }
 {

@@ -1,7 +1,7 @@
 use Rattle.std.proofs.Common.{Some, sym, ap, ◌∙◌}
 use Rattle.fixture_sheet.proofs.FieldLemmas.{is_blank-length}
 use Rattle.fixture_sheet.proofs.PaddingLemmas.{plain-none, plain-some}
-use Rattle.fixture_sheet.proofs.plain_line.plain_record.Goals as goal
+use Rattle.fixture_sheet.proofs.fields.plain_record.Goals as goal
 
 pub returns-then-is_empty : goal.returns-then-is_empty
 returns-then-is_empty c =
