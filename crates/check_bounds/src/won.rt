@@ -1,21 +1,54 @@
-//! The match points of each club, kept while one match after the other changes.
+//! The match points of a set of clubs, and of each club, kept while one match after the other
+//! changes.
 
 ghost use Rattle.std.specs.Prelude.{◌≡◌, ◌≢◌, ◌<◌, ◌≤ℤ◌, ℕ, pos, IsTrue};
 ghost use Rattle.std.specs.Prelude.{slice_index};
 ghost use Rattle.league_core.specs.game.Sheets.{is_fixture};
 ghost use Rattle.league_core.specs.game.Sums.{match_points, worth_to};
-ghost use Rattle.league_core.specs.search.PointRanges.{added, range_of};
+ghost use Rattle.league_core.specs.game.ClubSets.{clubs_in};
+ghost use Rattle.league_core.specs.search.PointRanges.{added, range_of, range_from};
+ghost use Rattle.league_core.specs.search.PointRanges.{points_together, points_of_sides};
 ghost use Rattle.check_bounds.specs.inside.Terms.{side_worth};
 ghost use Rattle.check_bounds.specs.declared.term.Measure.TheVariants as kinds;
 ghost use Rattle.check_bounds.specs.inside.IntRanges as ranges;
 ghost use Rattle.check_bounds.specs.inside.IntRanges.{as_sum_range, IsRangeWithin};
 ghost use Rattle.check_bounds.specs.inside.Cells.{points_by_table};
+ghost use Rattle.check_bounds.specs.inside.Tables.{ArePlayedOver};
 
 use crate::compare::range_at;
 use crate::extreme_scores::ExtremeScores;
 use crate::int_range::{IntRange, look_range};
 use crate::term::{Measure, Term};
-use league_core::{Fixture, Season};
+use league_core::{ClubSet, Fixture, Season};
+
+/// The match points of the clubs of a set.
+pub fn won_by(fixtures: &[Fixture], corners: &[ExtremeScores], set: ClubSet) -> IntRange
+    requires { ArePlayedOver fixtures.now corners.now }
+    ensures points { as_sum_range result
+        ≡ range_from (points_together (clubs_in set)) fixtures.now corners.now }
+    ensures near { IsRangeWithin 153000 result }
+{
+    let mut won = IntRange::ZERO;
+    for i in 0..fixtures.len() {
+        let home = set.has(fixtures[i].home);
+        let away = set.has(fixtures[i].away);
+        won = won.plus(won_in(&corners[i], home, away));
+    }
+    won
+}
+
+// The match points that a match gives to its sides that count; most matches of a small set give
+// none.
+fn won_in(corners: &ExtremeScores, home: bool, away: bool) -> IntRange
+    ensures range { as_sum_range result ≡ range_of (points_of_sides home away) corners.now }
+    ensures near { IsRangeWithin 255 result }
+{
+    if home || away {
+        look_range(corners.as_slice(), Term::Both { home, away })
+    } else {
+        IntRange::ZERO
+    }
+}
 
 /// Takes what a match gave to its two clubs off their points, and adds what it gives now.
 pub fn exchange_match(

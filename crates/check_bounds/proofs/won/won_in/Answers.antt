@@ -2,7 +2,7 @@
 use Rattle.std.proofs.Common.{sym, ◌∙◌}
 use Rattle.league_core.specs.search.PointRanges.{range_of, points_of_sides}
 use Rattle.league_core.proofs.RangeLemmas.{range_of-none}
-use Rattle.check_bounds.proofs.total.won_in.Goals as goal
+use Rattle.check_bounds.proofs.won.won_in.Goals as goal
 
 pub returns-else-away-clause-range : goal.returns-else-away-clause-range
 returns-else-away-clause-range c =

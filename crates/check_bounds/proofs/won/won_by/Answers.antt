@@ -6,7 +6,7 @@ use Rattle.league_core.specs.search.PointRanges.{points_together, points_of_side
 use Rattle.league_core.proofs.FixtureLemmas.{clubs_apart}
 use Rattle.check_bounds.proofs.IntRangeLemmas.{near_plus, near_wider}
 use Rattle.check_bounds.proofs.TableLemmas.{sum_more, together_by_ends}
-use Rattle.check_bounds.proofs.total.won_by.Goals as goal
+use Rattle.check_bounds.proofs.won.won_by.Goals as goal
 use Rattle.league_core.proofs.plain.Lists.{list_all-at}
 
 pub plus-won-requires-clause-near : goal.plus-won-requires-clause-near
