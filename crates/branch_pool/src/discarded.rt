@@ -1,7 +1,6 @@
 //! What is left of a ticket that was given back, and of what was found there.
 
-ghost use Rattle.std.specs.Prelude.{◌≡◌, Some};
-ghost use Rattle.std.specs.Option.{option_or, option_map};
+ghost use Rattle.std.specs.Prelude.{◌≡◌};
 ghost use Rattle.branch_pool.specs.inside.Steps.{example_in};
 
 use crate::question_state::Loan;
@@ -32,16 +31,4 @@ pub fn example_of(finding: Option<Finding>) -> Option<Example>
         Some(Finding::Split(_)) => None,
         None => None,
     }
-}
-
-/// An example stays if there is none yet, and is returned if there is one.
-pub fn keep_first(kept: &mut Option<Example>, example: Example) -> Option<Example>
-    ensures kept { kept.new ≡ option_or kept.old (Some example) }
-    ensures over { result ≡ option_map (λ _. example) kept.old }
-{
-    if kept.is_some() {
-        return Some(example);
-    }
-    *kept = Some(example);
-    None
 }

@@ -1,7 +1,8 @@
 //! What the pool keeps for each of its questions.
 
-ghost use Rattle.std.specs.Prelude.{◌≡◌, ◌<◌, ◌≤◌, ◌+◌, ◌^◌, IfOk, OnErr, OnOk, true, None};
+ghost use Rattle.std.specs.Prelude.{◌≡◌, ◌<◌, ◌≤◌, ◌+◌, ◌^◌, IfOk, OnErr, OnOk, true, None, Some};
 ghost use Rattle.std.specs.Prelude.{if◌then◌else◌};
+ghost use Rattle.std.specs.Option.{option_or, option_map};
 ghost use Rattle.league_core.specs.game.Seasons.{IsLeague};
 ghost use Rattle.league_core.specs.search.Trees.{open_leaf, has_open, node_count};
 ghost use Rattle.league_core.specs.inside.Lending.{times_lent, lent_count, lent_zones, put};
@@ -15,7 +16,6 @@ ghost use Rattle.branch_pool.specs.inside.QuestionStates.{LendsSeat, MayLend, Wo
 ghost use Rattle.branch_pool.specs.inside.Goodness.{IsGoodSeat};
 ghost use Rattle.league_core.specs.game.Questions.{IsQuestionOf};
 
-use crate::discarded::keep_first;
 use crate::ticket::Answer;
 use league_core::{OutOfMemory, Question, Season, Sheet, Zone};
 use reason_core::{Finding, Solver};
@@ -234,4 +234,16 @@ fn is_kept(sheet: &Sheet, season: &Season, example: &Option<Example>) -> bool
         Some(example) => example.finish.is_of(sheet, season),
         None => true,
     }
+}
+
+// An example stays if there is none yet, and is returned if there is one.
+fn keep_first(kept: &mut Option<Example>, example: Example) -> Option<Example>
+    ensures kept { kept.new ≡ option_or kept.old (Some example) }
+    ensures over { result ≡ option_map (λ _. example) kept.old }
+{
+    if kept.is_some() {
+        return Some(example);
+    }
+    *kept = Some(example);
+    None
 }
