@@ -12,6 +12,7 @@ mod feed_report;
 mod input;
 mod item_due;
 mod item_head;
+mod item_line;
 mod item_rows;
 mod judging;
 mod laws;

@@ -5,7 +5,8 @@ ghost use Rattle.std.specs.Prelude.{OnOk, length};
 ghost use Rattle.cert_check.specs.Machine.{with_unsettled};
 ghost use Rattle.par_check.specs.Outlines.{OutlinesItem, left_by};
 
-use crate::item_due::{DueAfter, ItemDue, ItemRow, due_after};
+use crate::item_due::{DueAfter, ItemDue, ItemRow};
+use crate::item_line::due_after;
 use cert_check::{CheckStopAt, PartRead, Report};
 use league_core::OutOfMemory;
 use line_tokens::Token;

@@ -1,6 +1,6 @@
 use Rattle.std.proofs.Common.{sym, ◌∙◌}
 use Rattle.par_check.proofs.OutlineLemmas.{if_true}
-use Rattle.par_check.proofs.item_due.behind_this_node.Goals as goal
+use Rattle.par_check.proofs.item_line.behind_this_node.Goals as goal
 
 pub returns-in_ok-behind_split-in-Split : goal.returns-in_ok-behind_split-in-Split
 returns-in_ok-behind_split-in-Split c =

@@ -2,7 +2,7 @@ use Rattle.std.proofs.Common.{◌+◌, [], ◌∷◌, drop, None, Some, ap, sym,
 use Rattle.par_check.specs.Shapes.{shape_of_scores}
 use Rattle.par_check.specs.Outlines.{question_of}
 use Rattle.par_check.proofs.OutlineLemmas.{score_counted}
-use Rattle.par_check.proofs.item_due.behind_score.Goals as goal
+use Rattle.par_check.proofs.item_line.behind_score.Goals as goal
 
 pub returns-in-Some : goal.returns-in-Some
 returns-in-Some c = λ row.
