@@ -8,7 +8,6 @@ ghost use Rattle.league_core.specs.search.Zones.{are_literals_true};
 ghost use Rattle.what_if.specs.inside.SeasonParts.{IsFoundBelow, IsMemberAnyhow};
 
 use crate::literals::are_true;
-use crate::season_part::season_trials;
 use example_finish::try_example;
 use league_core::{
     Claim, Event, Finish, Fixture, Literal, OutOfMemory, Question, Score, Season, Sheet, Test,
@@ -160,6 +159,16 @@ fn trials_at(units: u32) -> Option<u32> {
         49 => Some(500),
         199 => Some(2000),
         _ => None,
+    }
+}
+
+// The trials of a walk over the season, where so many would do and so many matches are open: a long
+// walk comes later to examples where more are.
+fn season_trials(trials: u32, open: u16) -> u32 {
+    if trials < 2000 {
+        trials
+    } else {
+        trials.max(u32::from(open) * 50 + 400)
     }
 }
 

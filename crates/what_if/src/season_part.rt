@@ -176,13 +176,3 @@ fn known_of(
         SearchEnd::Spent(_) => Ok(InSeason::Open),
     }
 }
-
-/// The trials of a walk over the season, where so many would do and so many matches are open: a
-/// long walk comes later to examples where more are.
-pub(crate) fn season_trials(trials: u32, open: u16) -> u32 {
-    if trials < 2000 {
-        trials
-    } else {
-        trials.max(u32::from(open) * 50 + 400)
-    }
-}
