@@ -47,79 +47,14 @@ IsGiven wins draws losses home away points =
     ⊎ (((draws ≡ true) × (points ≡ drawn_points home away))
     ⊎ ((losses ≡ true) × (points ≡ lost_points away)))
 
--- if the least is three, or the most is none, each outcome that may come gives just that
-given_at_three : (wins draws losses home away : Bool) → (wins || draws || losses) ≡ true
-    → least_of_three wins draws losses home away ≡ 3
-    → IsGiven wins draws losses home away (least_of_three wins draws losses home away)
-given_at_three true draws losses home away some three =
-    let below = (least_below true draws losses home away).0 refl in
-    inl (refl, omega (arith, won_points-most home))
-given_at_three false true losses home away some three =
-    let below = (least_below false true losses home away).1 refl in
-    inr (inl (refl, omega (arith, drawn_points-most home away)))
-given_at_three false false true home away some three =
-    let below = (least_below false false true home away).2 refl in
-    inr (inr (refl, omega (arith, won_points-most away)))
-given_at_three false false false home away some three = absurd (false≢true some)
-
-given_at_none : (wins draws losses home away : Bool) → (wins || draws || losses) ≡ true
-    → most_of_three wins draws losses home away ≡ 0
-    → IsGiven wins draws losses home away (most_of_three wins draws losses home away)
-given_at_none true draws losses home away some none =
-    let above = (most_above true draws losses home away).0 refl in
-    inl (refl, omega arith)
-given_at_none false true losses home away some none =
-    let above = (most_above false true losses home away).1 refl in
-    inr (inl (refl, omega arith))
-given_at_none false false true home away some none =
-    let above = (most_above false false true home away).2 refl in
-    inr (inr (refl, omega arith))
-given_at_none false false false home away some none = absurd (false≢true some)
-
--- a choice that is taken, or the number that stands for no choice
-taken : (b : Bool) (points other number : ℕ) → number ≡ cond b points other
-    → ((b ≡ true) × (number ≡ points)) ⊎ (number ≡ other)
-taken true points other number e = inl (refl, e)
-taken false points other number e = inr e
-
 -- an outcome that may come gives the least, and one gives the most
 least_given : (wins draws losses home away : Bool) → (wins || draws || losses) ≡ true
     → IsGiven wins draws losses home away (least_of_three wins draws losses home away)
-least_given wins draws losses home away some =
-    let Goal : Type 0 = IsGiven wins draws losses home away (least_of_three wins draws losses home
-    away) in
-    let low = least_of_three wins draws losses home away in
-    let at_three = given_at_three wins draws losses home away some in
-    elim (min_is_one (cond wins (won_points home) 3) (cond draws (drawn_points home away) 3)
-    (cond losses (lost_points away) 3)) as (λ _. Goal) [
-      | inl first ↦ elim (taken wins (won_points home) 3 low first) as (λ _. Goal)
-          [ inl here ↦ inl here | inr three ↦ at_three three ]
-      | inr others ↦ elim others as (λ _. Goal) [
-        | inl second ↦ elim (taken draws (drawn_points home away) 3 low second) as (λ _. Goal)
-            [ inl here ↦ inr (inl here) | inr three ↦ at_three three ]
-        | inr third ↦ elim (taken losses (lost_points away) 3 low third) as (λ _. Goal)
-            [ inl here ↦ inr (inr here) | inr three ↦ at_three three ]
-      ]
-    ]
+least_given wins draws losses home away some = grind (arith)
 
 most_given : (wins draws losses home away : Bool) → (wins || draws || losses) ≡ true
     → IsGiven wins draws losses home away (most_of_three wins draws losses home away)
-most_given wins draws losses home away some =
-    let Goal : Type 0 = IsGiven wins draws losses home away (most_of_three wins draws losses home
-    away) in
-    let high = most_of_three wins draws losses home away in
-    let at_none = given_at_none wins draws losses home away some in
-    elim (max_is_one (cond wins (won_points home) 0) (cond draws (drawn_points home away) 0)
-    (cond losses (lost_points away) 0)) as (λ _. Goal) [
-      | inl first ↦ elim (taken wins (won_points home) 0 high first) as (λ _. Goal)
-          [ inl here ↦ inl here | inr none ↦ at_none none ]
-      | inr others ↦ elim others as (λ _. Goal) [
-        | inl second ↦ elim (taken draws (drawn_points home away) 0 high second) as (λ _. Goal)
-            [ inl here ↦ inr (inl here) | inr none ↦ at_none none ]
-        | inr third ↦ elim (taken losses (lost_points away) 0 high third) as (λ _. Goal)
-            [ inl here ↦ inr (inr here) | inr none ↦ at_none none ]
-      ]
-    ]
+most_given wins draws losses home away some = grind (arith)
 
 -- a score of the cell of an outcome, if the cell has one
 pub has_outcome : (cell : Cell) (test : Score → Bool) (goals : Option ScoreRange)

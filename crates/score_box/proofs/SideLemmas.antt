@@ -1,6 +1,6 @@
 -- What the outcomes that are left give to one side of a match.
 use Rattle.std.proofs.Common.{◌≡◌, ◌⊎◌, Bool, true, false, not, ◌||◌, cond, refl, sym, ap, ◌∙◌}
-use Rattle.std.proofs.Common.{subst, inl, inr}
+use Rattle.std.proofs.Common.{subst, inl, inr, arith}
 use Rattle.std.proofs.lemmas.Bool.{cases_Bool}
 use Rattle.score_box.specs.declared.cell.Cell.{Cell}
 use Rattle.score_box.specs.declared.points.left.OutcomesLeft.{OutcomesLeft}
@@ -51,25 +51,11 @@ home_points-are cell left points are least_is most_is =
   where
     least : (w d l : Bool) → cond l 0 (cond d 1 (cond w 3 0))
         ≡ cond (not (w || d || l)) 0 (least_of_three w d l true false)
-    least true true true = refl
-    least true true false = refl
-    least true false true = refl
-    least true false false = refl
-    least false true true = refl
-    least false true false = refl
-    least false false true = refl
-    least false false false = refl
+    least w d l = grind (arith)
 
     most : (w d l : Bool) → cond w 3 (cond d 1 0)
         ≡ cond (not (w || d || l)) 0 (most_of_three w d l true false)
-    most true true true = refl
-    most true true false = refl
-    most true false true = refl
-    most true false false = refl
-    most false true true = refl
-    most false true false = refl
-    most false false true = refl
-    most false false false = refl
+    most w d l = grind (arith)
 
 pub away_points-are : (cell : Cell) (left : OutcomesLeft) (points : MatchPoints)
     → AreOutcomesLeft cell left
@@ -82,22 +68,8 @@ away_points-are cell left points are least_is most_is =
   where
     least : (w d l : Bool) → cond w 0 (cond d 1 (cond l 3 0))
         ≡ cond (not (w || d || l)) 0 (least_of_three w d l false true)
-    least true true true = refl
-    least true true false = refl
-    least true false true = refl
-    least true false false = refl
-    least false true true = refl
-    least false true false = refl
-    least false false true = refl
-    least false false false = refl
+    least w d l = grind (arith)
 
     most : (w d l : Bool) → cond l 3 (cond d 1 0)
         ≡ cond (not (w || d || l)) 0 (most_of_three w d l false true)
-    most true true true = refl
-    most true true false = refl
-    most true false true = refl
-    most true false false = refl
-    most false true true = refl
-    most false true false = refl
-    most false false true = refl
-    most false false false = refl
+    most w d l = grind (arith)
