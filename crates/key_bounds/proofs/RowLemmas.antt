@@ -7,8 +7,8 @@ use Rattle.league_core.specs.declared.season.Score.{Score}
 use Rattle.league_core.specs.game.Sums.{match_points, goal_difference, goals, away_goals, wins}
 use Rattle.league_core.specs.game.Sums.{away_wins}
 use Rattle.league_core.specs.inside.Extents.{IsExtent, IsNearZero}
-use Rattle.league_core.specs.search.PointRanges.{Range, one_value, negated}
-use Rattle.league_core.proofs.ExtentLemmas.{one_extent, negated_extent}
+use Rattle.league_core.specs.search.PointRanges.{one_value}
+use Rattle.league_core.proofs.ExtentLemmas.{one_extent}
 use Rattle.league_core.proofs.WorthLemmas.{points_won, points_drawn, points_lost, one_win, no_win}
 use Rattle.score_box.specs.declared.cell.Cell.{Cell}
 use Rattle.score_box.specs.declared.totals.Totals.{Totals}
@@ -20,7 +20,7 @@ use Rattle.tie_bound.specs.inside.IntRanges.{IsMargin}
 use Rattle.tie_bound.specs.inside.Sides.{goals_by, to_side, AreGoalsOf, Wins as WinsAll}
 use Rattle.tie_bound.specs.inside.Sides.{Draws as DrawsAll, Loses as LosesAll}
 use Rattle.tie_bound.proofs.ExtentLemmas.{goals_extent}
-use Rattle.tie_bound.proofs.MarginLemmas.{home_margin, away_margin}
+use Rattle.tie_bound.proofs.MarginLemmas.{lost_extent, margin_extent}
 use Rattle.key_bounds.specs.declared.goal_ends.GoalEnds.{GoalEnds}
 use Rattle.key_bounds.specs.declared.row_ends.RowEnds.{RowEnds}
 use Rattle.key_bounds.specs.inside.RowEnds.{ends_in, totals_row, as_goals, AreGoals}
@@ -94,29 +94,6 @@ ends_from allowed away points low high least most won are p l h few_least few_mo
 few : (number : ℕ) → number ≤ 255 → IsNearZero 255 (pos number)
 few number at_most = (omega (arith, ints), omega (arith, ints))
 
-margin_extent : (cell : Cell) (away : Bool) (own other : GoalEnds) (range : Range)
-    → WinsAll cell away → AreGoalsOf cell away (as_goals own)
-    → AreGoalsOf cell (not away) (as_goals other) → IsMargin (as_goals own) (as_goals other) range
-    → IsExtent (allows cell) (to_side goal_difference away) range
-margin_extent cell true own other range wins mine theirs margin =
-    away_margin cell (as_goals own) (as_goals other) range wins mine theirs margin
-margin_extent cell false own other range wins mine theirs margin =
-    home_margin cell (as_goals own) (as_goals other) range wins mine theirs margin
-
--- a defeat is the other side's win
-lost_extent : (cell : Cell) (away : Bool) (own other : GoalEnds) (range : Range)
-    → LosesAll cell away → AreGoalsOf cell away (as_goals own)
-    → AreGoalsOf cell (not away) (as_goals other) → IsMargin (as_goals other) (as_goals own) range
-    → IsExtent (allows cell) (to_side goal_difference away) (negated range)
-lost_extent cell true own other range loses mine theirs margin =
-    negated_extent (allows cell) (to_side goal_difference false) (to_side goal_difference true)
-    range (λ score. omega (arith, ints))
-    (home_margin cell (as_goals other) (as_goals own) range loses theirs mine margin)
-lost_extent cell false own other range loses mine theirs margin =
-    negated_extent (allows cell) (to_side goal_difference true) (to_side goal_difference false)
-    range (λ score. omega (arith, ints))
-    (away_margin cell (as_goals other) (as_goals own) range loses theirs mine margin)
-
 -- no side has fewer goals at the most than at the least
 least_few : (cell : Cell) (away : Bool) (own : GoalEnds) → AreGoalsOf cell away (as_goals own)
     → own.most ≤ 255 → own.least ≤ 255
@@ -137,7 +114,7 @@ won_ends cell away own other closest widest wins_all are own_few margin low high
       points_are = one_extent (allows cell) (to_side match_points away) (pos 3) some there
           (λ score is. points_won (goals_by away score) (goals_by (not away) score) away
           (wins_all score is));
-      difference_is = margin_extent cell away own other
+      difference_is = margin_extent cell away (as_goals own) (as_goals other)
           (record { least = closest; greatest = widest }) wins_all are.own_goals are.other_goals
           margin;
       goals_are = goals_extent cell away (as_goals own) are.own_goals;
@@ -184,7 +161,7 @@ lost_ends cell away own other closest widest loses are own_few margin low high =
       points_are = one_extent (allows cell) (to_side match_points away) (pos 0) some there
           (λ score is. points_lost (goals_by away score) (goals_by (not away) score) away
           (loses score is));
-      difference_is = lost_extent cell away own other
+      difference_is = lost_extent cell away (as_goals own) (as_goals other)
           (record { least = closest; greatest = widest }) loses are.own_goals are.other_goals
           margin;
       goals_are = goals_extent cell away (as_goals own) are.own_goals;

@@ -1,6 +1,6 @@
 -- Answers as three sets: how they change with the sets.
 use Rattle.std.proofs.Common.{◌≡◌, ℕ, Bool, true, false, not, ◌&&◌, ◌||◌, ◌==◌, cond, []}
-use Rattle.std.proofs.Common.{List, refl, sym, ap, ◌∙◌}
+use Rattle.std.proofs.Common.{List, refl, sym, ap, ◌∙◌, arith}
 use Rattle.std.proofs.lemmas.Bool.{eqb-true}
 use Rattle.league_core.specs.declared.sure.Sure.{Sure}
 use Rattle.league_core.specs.declared.sure.Sure.TheVariants.{Above, Below, Level, Unknown}
@@ -104,16 +104,7 @@ then_one : (above below level inside next_above next_below next_level : Bool)
     ((level && not open_) || (open_ && next_level)))
     ≡ cond inside (sure_then (in_sets above below level)
     (in_sets next_above next_below next_level)) (in_sets above below level)
-then_one true below level true next_above next_below next_level = refl
-then_one true below level false next_above next_below next_level = refl
-then_one false true true true next_above next_below next_level = refl
-then_one false true true false next_above next_below next_level = refl
-then_one false true false true next_above next_below next_level = refl
-then_one false true false false next_above next_below next_level = refl
-then_one false false true true next_above next_below next_level = refl
-then_one false false true false next_above next_below next_level = refl
-then_one false false false true next_above next_below next_level = refl
-then_one false false false false next_above next_below next_level = refl
+then_one above below level inside next_above next_below next_level = grind (arith)
 
 pub answers_then : (old next new : Answers) (group : List ℕ) (open_ : ℕ → Bool)
     → ((x : ℕ) → open_ x ≡ ((has_club (clubs_in old.level) x
@@ -211,15 +202,4 @@ level_of answers x low = at (has_club (clubs_in answers.above) x)
     (has_club (clubs_in answers.below) x) (has_club (clubs_in answers.level) x) low
   where
     at : (a b l low : Bool) → ((l && not (a || b)) && low) ≡ (low && is_level (in_sets a b l))
-    at true b true true = refl
-    at true b true false = refl
-    at true b false true = refl
-    at true b false false = refl
-    at false true true true = refl
-    at false true true false = refl
-    at false true false true = refl
-    at false true false false = refl
-    at false false true true = refl
-    at false false true false = refl
-    at false false false true = refl
-    at false false false false = refl
+    at a b l low = grind (arith)

@@ -1,13 +1,13 @@
 -- The sums that a match leaves to one of its sides, by the outcome that all its scores have.
-use Rattle.std.proofs.Common.{◌≡◌, ◌≤◌, pos, Bool, true, false, not}
+use Rattle.std.proofs.Common.{◌≡◌, ◌≤◌, ℤ, pos, Bool, true, false, not}
 use Rattle.std.proofs.Common.{cond, [], refl, sym, ap, ◌∙◌, arith}
 use Rattle.std.proofs.lemmas.Int.{ints}
 use Rattle.league_core.specs.declared.season.Score.{Score}
 use Rattle.league_core.specs.game.Sums.{match_points, goal_difference, goals, away_goals, wins}
-use Rattle.league_core.specs.game.Sums.{away_wins}
+use Rattle.league_core.specs.game.Sums.{Worth, away_wins}
 use Rattle.league_core.specs.search.PointRanges.{Range, one_value, negated, range_of}
 use Rattle.league_core.specs.inside.Extents.{IsExtent}
-use Rattle.league_core.proofs.ExtentLemmas.{extent-is, extent_at, one_extent, negated_extent}
+use Rattle.league_core.proofs.ExtentLemmas.{extent-is, extent_at, one_extent}
 use Rattle.league_core.proofs.WorthLemmas.{points_won, points_drawn, points_lost}
 use Rattle.league_core.proofs.WorthLemmas.{one_win, no_win, one_away_win, no_away_win}
 use Rattle.tie_criteria.specs.declared.measure.Measure.{Measure}
@@ -23,7 +23,7 @@ use Rattle.tie_bound.specs.inside.Sums.{range_by, no_sums}
 use Rattle.tie_bound.specs.inside.Sides.{goals_by, to_side, AreGoalsOf, Wins as WinsAll}
 use Rattle.tie_bound.specs.inside.Sides.{Draws as DrawsAll, Loses as LosesAll, AreSumsOf}
 use Rattle.tie_bound.proofs.ExtentLemmas.{goals_extent, near_extent, worth_near, no_options}
-use Rattle.tie_bound.proofs.MarginLemmas.{home_margin, away_margin}
+use Rattle.tie_bound.proofs.MarginLemmas.{lost_extent, margin_extent}
 
 -- what all the sums of a side need: the goals of each side, which are no more than 255
 pub record IsMatchOf (cell : Cell) (away : Bool) (own other : GoalRange) : Type 0 where
@@ -69,77 +69,39 @@ away_win_extent cell true score allowed all_won =
 away_win_extent cell false score allowed all_won =
     one_extent (allows cell) (to_side away_wins false) (pos 0) score allowed (λ s is. refl)
 
-margin_extent : (cell : Cell) (away : Bool) (own other : GoalRange) (range : Range)
-    → WinsAll cell away → AreGoalsOf cell away own → AreGoalsOf cell (not away) other
-    → IsMargin own other range → IsExtent (allows cell) (to_side goal_difference away) range
-margin_extent cell true own other range all_won own_goals other_goals margin = away_margin cell own
-    other range all_won own_goals other_goals margin
-margin_extent cell false own other range all_won own_goals other_goals margin = home_margin cell own
-    other range all_won own_goals other_goals margin
-
--- a defeat is the other side's win
-lost_extent : (cell : Cell) (away : Bool) (own other : GoalRange) (range : Range)
-    → LosesAll cell away → AreGoalsOf cell away own → AreGoalsOf cell (not away) other
-    → IsMargin other own range → IsExtent (allows cell) (to_side goal_difference away)
-    (negated range)
-lost_extent cell true own other range loses own_goals other_goals margin =
-    negated_extent (allows cell) (to_side goal_difference false) (to_side goal_difference true)
-    range (λ score. omega (arith, ints))
-    (home_margin cell other own range loses other_goals own_goals margin)
-lost_extent cell false own other range loses own_goals other_goals margin =
-    negated_extent (allows cell) (to_side goal_difference true) (to_side goal_difference false)
-    range (λ score. omega (arith, ints))
-    (away_margin cell other own range loses other_goals own_goals margin)
-
--- what the code gives for a side that wins, draws or loses with these goals
-pub record AreWon (own other : GoalRange) (away : Bool) (sums : Sums) : Type 0 where
-  pub points : as_range sums.points ≡ one_value (pos 3)
-  pub difference : IsMargin own other (as_range sums.difference)
+-- what the code gives for a side that has so many points and wins at all scores of a cell
+pub record AreEarned (own : GoalRange) (away : Bool) (sums : Sums) (earned won : ℤ)
+    (away_won : Range) : Type 0 where
+  pub points : as_range sums.points ≡ one_value earned
   pub goals : as_range sums.goals ≡ record { least = pos own.least; greatest = pos own.most }
   pub away_goals : as_range sums.away_goals ≡ cond away
       (record { least = pos own.least; greatest = pos own.most }) (one_value (pos 0))
-  pub wins : as_range sums.wins ≡ one_value (pos 1)
-  pub away_wins : as_range sums.away_wins ≡ cond away (one_value (pos 1)) (one_value (pos 0))
+  pub wins : as_range sums.wins ≡ one_value won
+  pub away_wins : as_range sums.away_wins ≡ away_won
 
-pub record AreDrawn (own : GoalRange) (away : Bool) (sums : Sums) : Type 0 where
-  pub points : as_range sums.points ≡ one_value (pos 1)
-  pub difference : as_range sums.difference ≡ one_value (pos 0)
-  pub goals : as_range sums.goals ≡ record { least = pos own.least; greatest = pos own.most }
-  pub away_goals : as_range sums.away_goals ≡ cond away
-      (record { least = pos own.least; greatest = pos own.most }) (one_value (pos 0))
-  pub wins : as_range sums.wins ≡ one_value (pos 0)
-  pub away_wins : as_range sums.away_wins ≡ one_value (pos 0)
-
-pub record AreLost (own other : GoalRange) (away : Bool) (sums : Sums) : Type 0 where
-  pub points : as_range sums.points ≡ one_value (pos 0)
-  pub difference : (range : Range) × IsMargin other own range
-      × (as_range sums.difference ≡ negated range)
-  pub goals : as_range sums.goals ≡ record { least = pos own.least; greatest = pos own.most }
-  pub away_goals : as_range sums.away_goals ≡ cond away
-      (record { least = pos own.least; greatest = pos own.most }) (one_value (pos 0))
-  pub wins : as_range sums.wins ≡ one_value (pos 0)
-  pub away_wins : as_range sums.away_wins ≡ one_value (pos 0)
-
-pub won_sums : (cell : Cell) (away : Bool) (own other : GoalRange) (sums : Sums)
-    → IsMatchOf cell away own other → WinsAll cell away → AreWon own other away sums
+earned_sums : (cell : Cell) (away : Bool) (own other : GoalRange) (sums : Sums) (earned won : ℤ)
+    (away_won : Range) → IsMatchOf cell away own other
+    → AreEarned own away sums earned won away_won
+    → ((score : Score) → allows cell score ≡ true → to_side match_points away score ≡ earned)
+    → ((score : Score) → allows cell score ≡ true → to_side wins away score ≡ won)
+    → IsExtent (allows cell) (to_side away_wins away) away_won
+    → IsExtent (allows cell) (to_side goal_difference away) (as_range sums.difference)
     → AreSumsOf cell away sums
-won_sums cell away own other sums match wins_all are = sums_from cell away own other sums match
-    extents
+earned_sums cell away own other sums earned won away_won match are gives counts away_extent
+    difference = sums_from cell away own other sums match extents
   where
-    some : Score
-    some = match.own_goals.least.0
-
-    allowed : allows cell some ≡ true
-    allowed = match.own_goals.least.1
+    all_are : (worth : Worth) (value : ℤ)
+        → ((score : Score) → allows cell score ≡ true → to_side worth away score ≡ value)
+        → IsExtent (allows cell) (to_side worth away) (one_value value)
+    all_are worth value is =
+        one_extent (allows cell) (to_side worth away) value match.own_goals.least.0
+        match.own_goals.least.1 is
 
     extents : (measure : Measure) → IsExtent (allows cell) (to_side (worth_of measure) away)
         (range_by sums measure)
     extents Points = extent_at (allows cell) (to_side match_points away) (as_range sums.points)
-        (one_value (pos 3)) are.points (one_extent (allows cell) (to_side match_points away) (pos 3)
-        some allowed (λ score is. points_won (goals_by away score) (goals_by (not away) score) away
-        (wins_all score is)))
-    extents Difference = margin_extent cell away own other (as_range sums.difference) wins_all
-        match.own_goals match.other_goals are.difference
+        (one_value earned) are.points (all_are match_points earned gives)
+    extents Difference = difference
     extents Goals = extent_at (allows cell) (to_side goals away) (as_range sums.goals)
         (record { least = pos own.least; greatest = pos own.most }) are.goals
         (goals_extent cell away own match.own_goals)
@@ -147,12 +109,42 @@ won_sums cell away own other sums match wins_all are = sums_from cell away own o
         (cond away (record { least = pos own.least; greatest = pos own.most }) (one_value (pos 0)))
         are.away_goals (away_goals_extent cell away own match.own_goals)
     extents Wins = extent_at (allows cell) (to_side wins away) (as_range sums.wins)
-        (one_value (pos 1)) are.wins (one_extent (allows cell) (to_side wins away) (pos 1) some
-        allowed (λ score is. one_win (goals_by away score) (goals_by (not away) score) away
-        (wins_all score is)))
+        (one_value won) are.wins (all_are wins won counts)
     extents AwayWins = extent_at (allows cell) (to_side away_wins away) (as_range sums.away_wins)
-        (cond away (one_value (pos 1)) (one_value (pos 0))) are.away_wins
-        (away_win_extent cell away some allowed wins_all)
+        away_won are.away_wins away_extent
+
+pub won_sums : (cell : Cell) (away : Bool) (own other : GoalRange) (sums : Sums)
+    → IsMatchOf cell away own other → WinsAll cell away
+    → IsMargin own other (as_range sums.difference)
+    → AreEarned own away sums (pos 3) (pos 1) (cond away (one_value (pos 1)) (one_value (pos 0)))
+    → AreSumsOf cell away sums
+won_sums cell away own other sums match wins_all margin are =
+    earned_sums cell away own other sums (pos 3) (pos 1)
+    (cond away (one_value (pos 1)) (one_value (pos 0))) match are
+    (λ score is. points_won (goals_by away score) (goals_by (not away) score) away
+    (wins_all score is))
+    (λ score is. one_win (goals_by away score) (goals_by (not away) score) away
+    (wins_all score is))
+    (away_win_extent cell away match.own_goals.least.0 match.own_goals.least.1 wins_all)
+    (margin_extent cell away own other (as_range sums.difference) wins_all match.own_goals
+    match.other_goals margin)
+
+-- a side that wins at no score has no wins
+unwon_sums : (cell : Cell) (away : Bool) (own other : GoalRange) (sums : Sums) (earned : ℤ)
+    → IsMatchOf cell away own other
+    → AreEarned own away sums earned (pos 0) (one_value (pos 0))
+    → ((score : Score) → allows cell score ≡ true → to_side match_points away score ≡ earned)
+    → ((score : Score) → allows cell score ≡ true
+    → goals_by away score ≤ goals_by (not away) score)
+    → IsExtent (allows cell) (to_side goal_difference away) (as_range sums.difference)
+    → AreSumsOf cell away sums
+unwon_sums cell away own other sums earned match are gives no_more difference =
+    earned_sums cell away own other sums earned (pos 0) (one_value (pos 0)) match are gives
+    (λ score is. no_win (goals_by away score) (goals_by (not away) score) away (no_more score is))
+    (one_extent (allows cell) (to_side away_wins away) (pos 0) match.own_goals.least.0
+    match.own_goals.least.1 (λ score is. no_away_win (goals_by away score)
+    (goals_by (not away) score) away (no_more score is)))
+    difference
 
 -- in a draw the other side has the same goals
 pub drawn_match : (cell : Cell) (away : Bool) (own : GoalRange) → own.most ≤ 255
@@ -171,83 +163,31 @@ drawn_match cell away own few draws are = record {
 }
 
 pub drawn_sums : (cell : Cell) (away : Bool) (own other : GoalRange) (sums : Sums)
-    → IsMatchOf cell away own other → DrawsAll cell away → AreDrawn own away sums
-    → AreSumsOf cell away sums
-drawn_sums cell away own other sums match draws are = sums_from cell away own other sums match
-    extents
-  where
-    some : Score
-    some = match.own_goals.least.0
+    → IsMatchOf cell away own other → DrawsAll cell away
+    → as_range sums.difference ≡ one_value (pos 0)
+    → AreEarned own away sums (pos 1) (pos 0) (one_value (pos 0)) → AreSumsOf cell away sums
+drawn_sums cell away own other sums match draws level are =
+    unwon_sums cell away own other sums (pos 1) match are
+    (λ score is. points_drawn (goals_by away score) (goals_by (not away) score) away
+    (draws score is))
+    (λ score is. let same = draws score is in omega arith)
+    (extent_at (allows cell) (to_side goal_difference away) (as_range sums.difference)
+    (one_value (pos 0)) level
+    (one_extent (allows cell) (to_side goal_difference away) (pos 0) match.own_goals.least.0
+    match.own_goals.least.1 (λ score is. let same = draws score is in omega (arith, ints))))
 
-    allowed : allows cell some ≡ true
-    allowed = match.own_goals.least.1
-
-    no_difference : (score : Score) → allows cell score ≡ true → to_side goal_difference away score
-        ≡ pos 0
-    no_difference score is = let level = draws score is in omega (arith, ints)
-
-    extents : (measure : Measure) → IsExtent (allows cell) (to_side (worth_of measure) away)
-        (range_by sums measure)
-    extents Points = extent_at (allows cell) (to_side match_points away) (as_range sums.points)
-        (one_value (pos 1)) are.points (one_extent (allows cell) (to_side match_points away) (pos 1)
-        some allowed (λ score is. points_drawn (goals_by away score) (goals_by (not away) score)
-        away (draws score is)))
-    extents Difference = extent_at (allows cell) (to_side goal_difference away)
-        (as_range sums.difference) (one_value (pos 0)) are.difference
-        (one_extent (allows cell) (to_side goal_difference away) (pos 0) some allowed no_difference)
-    extents Goals = extent_at (allows cell) (to_side goals away) (as_range sums.goals)
-        (record { least = pos own.least; greatest = pos own.most }) are.goals
-        (goals_extent cell away own match.own_goals)
-    extents AwayGoals = extent_at (allows cell) (to_side away_goals away) (as_range sums.away_goals)
-        (cond away (record { least = pos own.least; greatest = pos own.most }) (one_value (pos 0)))
-        are.away_goals (away_goals_extent cell away own match.own_goals)
-    extents Wins = extent_at (allows cell) (to_side wins away) (as_range sums.wins)
-        (one_value (pos 0)) are.wins (one_extent (allows cell) (to_side wins away) (pos 0) some
-        allowed (λ score is. let level = draws score is in no_win (goals_by away score)
-        (goals_by (not away) score) away (omega arith)))
-    extents AwayWins = extent_at (allows cell) (to_side away_wins away) (as_range sums.away_wins)
-        (one_value (pos 0)) are.away_wins
-        (one_extent (allows cell) (to_side away_wins away) (pos 0) some allowed
-        (λ score is. let level = draws score is in no_away_win (goals_by away score)
-        (goals_by (not away) score) away (omega arith)))
-
-pub lost_sums : (cell : Cell) (away : Bool) (own other : GoalRange) (sums : Sums)
-    → IsMatchOf cell away own other → LosesAll cell away → AreLost own other away sums
-    → AreSumsOf cell away sums
-lost_sums cell away own other sums match loses are = sums_from cell away own other sums match
-    extents
-  where
-    some : Score
-    some = match.own_goals.least.0
-
-    allowed : allows cell some ≡ true
-    allowed = match.own_goals.least.1
-
-    extents : (measure : Measure) → IsExtent (allows cell) (to_side (worth_of measure) away)
-        (range_by sums measure)
-    extents Points = extent_at (allows cell) (to_side match_points away) (as_range sums.points)
-        (one_value (pos 0)) are.points (one_extent (allows cell) (to_side match_points away) (pos 0)
-        some allowed (λ score is. points_lost (goals_by away score) (goals_by (not away) score) away
-        (loses score is)))
-    extents Difference = extent_at (allows cell) (to_side goal_difference away)
-        (as_range sums.difference) (negated are.difference.0) are.difference.2
-        (lost_extent cell away own other are.difference.0 loses match.own_goals match.other_goals
-        are.difference.1)
-    extents Goals = extent_at (allows cell) (to_side goals away) (as_range sums.goals)
-        (record { least = pos own.least; greatest = pos own.most }) are.goals
-        (goals_extent cell away own match.own_goals)
-    extents AwayGoals = extent_at (allows cell) (to_side away_goals away) (as_range sums.away_goals)
-        (cond away (record { least = pos own.least; greatest = pos own.most }) (one_value (pos 0)))
-        are.away_goals (away_goals_extent cell away own match.own_goals)
-    extents Wins = extent_at (allows cell) (to_side wins away) (as_range sums.wins)
-        (one_value (pos 0)) are.wins (one_extent (allows cell) (to_side wins away) (pos 0) some
-        allowed (λ score is. let below = loses score is in no_win (goals_by away score)
-        (goals_by (not away) score) away (omega arith)))
-    extents AwayWins = extent_at (allows cell) (to_side away_wins away) (as_range sums.away_wins)
-        (one_value (pos 0)) are.away_wins
-        (one_extent (allows cell) (to_side away_wins away) (pos 0) some allowed
-        (λ score is. let below = loses score is in no_away_win (goals_by away score)
-        (goals_by (not away) score) away (omega arith)))
+pub lost_sums : (cell : Cell) (away : Bool) (own other : GoalRange) (sums : Sums) (range : Range)
+    → IsMatchOf cell away own other → LosesAll cell away → IsMargin other own range
+    → as_range sums.difference ≡ negated range
+    → AreEarned own away sums (pos 0) (pos 0) (one_value (pos 0)) → AreSumsOf cell away sums
+lost_sums cell away own other sums range match loses margin turned are =
+    unwon_sums cell away own other sums (pos 0) match are
+    (λ score is. points_lost (goals_by away score) (goals_by (not away) score) away
+    (loses score is))
+    (λ score is. let below = loses score is in omega arith)
+    (extent_at (allows cell) (to_side goal_difference away) (as_range sums.difference)
+    (negated range) turned
+    (lost_extent cell away own other range loses match.own_goals match.other_goals margin))
 
 -- if no score is open, the match adds nothing
 pub none_sums : (cell : Cell) (away : Bool) → IsEmptyCell cell → AreSumsOf cell away no_sums

@@ -19,10 +19,9 @@ returns c = λ cell draws own.
     } in
     drawn_sums cell away c.args.own c.args.own sums
     (drawn_match cell away c.args.own (omega arith) draws own)
-    draws
+    draws c.only-2.ensures
     (record {
       points = c.only.ensures;
-      difference = c.only-2.ensures;
       goals = c.as_int_range.ensures;
       away_goals = c.only_if.ensures ∙ ap (λ (r : Range). cond away r (one_value (pos 0)))
           c.as_int_range-2.ensures;

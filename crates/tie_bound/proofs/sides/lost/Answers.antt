@@ -18,17 +18,16 @@ returns c = λ cell loses own other.
       away_wins =
           c.only-3.result;
     } in
-    lost_sums cell away c.args.own c.args.other sums
+    lost_sums cell away c.args.own c.args.other sums (as_range c.margin.result)
     (record {
       own_goals = own;
       other_goals = other;
       own_few = omega arith;
       other_few = omega arith;
     })
-    loses
+    loses c.margin.ensures c.negated.ensures
     (record {
       points = c.only.ensures;
-      difference = (as_range c.margin.result, c.margin.ensures, c.negated.ensures);
       goals = c.as_int_range.ensures;
       away_goals = c.only_if.ensures ∙ ap (λ (r : Range). cond away r (one_value (pos 0)))
           c.as_int_range-2.ensures;

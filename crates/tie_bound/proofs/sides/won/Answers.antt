@@ -24,10 +24,9 @@ returns c = λ cell wins own other.
       own_few = omega arith;
       other_few = omega arith;
     })
-    wins
+    wins c.margin.ensures
     (record {
       points = c.only.ensures;
-      difference = c.margin.ensures;
       goals = c.as_int_range.ensures;
       away_goals = c.only_if.ensures ∙ ap (λ (r : Range). cond away r (one_value (pos 0)))
           c.as_int_range-2.ensures;
