@@ -1,15 +1,16 @@
 -- A set of marked clubs with an excess is a cut, and if none has an excess there is no cut.
-use Rattle.std.proofs.Common.{◌≡◌, ℕ, suc, ℤ, pos, ◌+ℤ◌, ◌-ℤ◌, ◌*ℤ◌, ◌≤ℤ◌, ◌<ℤ◌, Bool, true, false}
-use Rattle.std.proofs.Common.{◌&&◌, List, [], ◌∷◌, length, Option, Some, None, refl, sym, ap, ◌∙◌}
-use Rattle.std.proofs.Common.{inl, inr, arith}
-use Rattle.std.specs.Prelude.{IfSome, MatchOption}
-use Rattle.std.specs.List.{list_all}
+use mir.Syntax.{w64}
+use mir.Val.{to_z, of_z}
+use Rattle.std.proofs.Common.{◌≡◌, ◌≢◌, ℕ, suc, ℤ, pos, ◌+ℤ◌, ◌-ℤ◌, ◌*ℤ◌, ◌≤ℤ◌, ◌<ℤ◌, Bool, true}
+use Rattle.std.proofs.Common.{false, ◌&&◌, List, [], ◌∷◌, length, Option, Some, None, refl, sym}
+use Rattle.std.proofs.Common.{ap, ◌∙◌, inl, inr, arith}
+use Rattle.std.specs.Prelude.{IfSome, MatchOption, int_lt, neg_ℤ, ◌^◌}
+use Rattle.std.specs.List.{All, list_all}
 use Rattle.std.proofs.lemmas.Int.{ints}
 use Rattle.std.proofs.lemmas.Bool.{and_from}
 use Rattle.league_core.specs.declared.sheet.Sheet.{Sheet}
 use Rattle.league_core.specs.declared.question.Question.{Question}
 use Rattle.league_core.specs.declared.zone.Literal.{Literal}
-use Rattle.league_core.specs.declared.zone.Reason.TheVariants.{Low, High}
 use Rattle.league_core.specs.declared.club_set.ClubSet.{ClubSet}
 use Rattle.league_core.specs.game.Results.{Results}
 use Rattle.league_core.specs.game.Sums.{has_club}
@@ -19,11 +20,16 @@ use Rattle.league_core.specs.search.Options.{has_finish}
 use Rattle.league_core.specs.search.PointRanges.{least_points_of, most_points_of, own_most}
 use Rattle.league_core.specs.search.PointRanges.{own_least}
 use Rattle.league_core.specs.search.Reasons.{has_reason, has_member, times}
+use Rattle.score_box.specs.inside.Boxes.{IsSetOf}
+use Rattle.score_box.specs.inside.Points.{most_taken_off}
+use Rattle.score_box.specs.inside.ZoneBoxViews.{ZoneBoxView}
+use Rattle.flow_bound.specs.declared.cut.Cut.{Cut}
 use Rattle.flow_bound.specs.declared.cut.Cut.TheVariants.{Floor, Ceiling}
 use Rattle.flow_bound.specs.declared.tally.Pair.{Pair}
-use Rattle.flow_bound.specs.inside.Excess.{AreMarked, IsChosen, high_excess, low_excess}
-use Rattle.flow_bound.specs.inside.Fixtures.{excess_over}
-use Rattle.flow_bound.specs.inside.Parts.{HasNoExcess, IsAnsweredSet, side_of}
+use Rattle.flow_bound.specs.inside.Cuts.{excess_for, level_for, marked_for, reason_for}
+use Rattle.flow_bound.specs.inside.Excess.{AreMarked, IsChosen}
+use Rattle.flow_bound.specs.inside.Fixtures.{excess_over, pairs_in}
+use Rattle.flow_bound.specs.inside.Parts.{HasNoExcess, IsAnsweredSet, excess_in, side_of}
 use Rattle.flow_bound.proofs.PartLemmas.{excess_in-empty}
 use Rattle.flow_bound.proofs.ChosenLemmas.{GivesExcess, alone_is, marked_part, part_marked}
 use Rattle.flow_bound.proofs.ChosenLemmas.{one_marked, chosen_is}
@@ -82,53 +88,78 @@ times-less (club ∷ clubs) points =
     one_more : (n : ℕ) (points : ℤ) → pos (suc n) *ℤ points ≡ points +ℤ (pos n *ℤ points)
     one_more n points = omega (arith, ints)
 
--- the excess over a level is that of the cut
-pub low_excess-is : (sheet : Sheet) (season : Results) (question : Question) (zone : List Literal)
-    (level : ℤ) (clubs : List ℕ) → level ≡ pos 0 -ℤ own_most sheet season question zone
-    → excess_over Floor sheet season zone level clubs ≡ low_excess sheet season question zone
-    clubs
-unfolding least_points_of
-low_excess-is sheet season question zone level clubs is =
+-- the excess over the level of a cut is that of the cut
+excess_over-is : (cut : Cut) (sheet : Sheet) (season : Results) (question : Question)
+    (zone : List Literal) (level : ℤ) (clubs : List ℕ)
+    → level ≡ level_for cut sheet season question zone
+    → excess_over cut sheet season zone level clubs
+    ≡ excess_for cut sheet season question zone clubs
+unfolding least_points_of most_points_of
+excess_over-is Floor sheet season question zone level clubs is =
     let same = ap (times clubs) is in
     let less = times-less clubs (own_most sheet season question zone) in
     omega (arith, ints)
-
-pub high_excess-is : (sheet : Sheet) (season : Results) (question : Question) (zone : List
-    Literal)
-    (level : ℤ) (clubs : List ℕ) → level ≡ own_least sheet season question zone
-    → excess_over Ceiling sheet season zone level clubs ≡ high_excess sheet season question zone
-    clubs
-unfolding most_points_of
-high_excess-is sheet season question zone level clubs is =
+excess_over-is Ceiling sheet season question zone level clubs is =
     let same = ap (times clubs) is in
     omega (arith, ints)
 
--- a set of marked clubs with an excess has the reason
-pub floor_holds : (sheet : Sheet) (season : Results) (question : Question) (zone : List Literal)
-    (set : ClubSet) → has_finish sheet season zone ≡ true → has_member (clubs_in set) ≡ true
-    → AreMarked (marked_after zone) set
-    → pos 0 <ℤ low_excess sheet season question zone (clubs_in set)
-    → has_reason sheet season question zone (Low set) ≡ true
-unfolding has_reason
-floor_holds sheet season question zone set finish member all exceeds =
-    and_from (has_finish sheet season zone) _ finish
-    (and_from (has_member (clubs_in set) && list_all (marked_after zone) (clubs_in set)) _
-    (and_from (has_member (clubs_in set)) _ member all)
-    (int_lt-gap (times (clubs_in set) (own_most sheet season question zone))
-    (least_points_of sheet season zone (clubs_in set)) exceeds))
+-- so the parts of the tally at that level, as a word keeps it, give it
+pub gives_excess : (cut : Cut) (box : ZoneBoxView) (question : Question) (table : List ℤ)
+    (rivals : ClubSet) (level : ℤ)
+    → level ≡ level_for cut box.sheet box.season question box.zone
+    → neg_ℤ most_taken_off ≤ℤ level → level ≤ℤ pos (2 ^ 31)
+    → IsSetOf rivals (marked_for cut box.zone)
+    → All (λ pair. pair.home ≢ pair.away) (pairs_in cut box)
+    → ((set : ClubSet) → excess_in table (pairs_in cut box) (side_of set)
+    ≡ excess_over cut box.sheet box.season box.zone (to_z w64 (of_z w64 level)) (clubs_in set))
+    → GivesExcess table (pairs_in cut box) rivals (marked_for cut box.zone)
+    (excess_for cut box.sheet box.season question box.zone)
+gives_excess cut box question table rivals level is least most marks apart sums = record {
+  marks = marks;
+  apart = apart;
+  sums = λ set part. sums set
+      ∙ excess_over-is cut box.sheet box.season question box.zone (to_z w64 (of_z w64 level))
+      (clubs_in set) (same ∙ is);
+}
+  where
+    same : to_z w64 (of_z w64 level) ≡ level
+    same = omega (arith, ints)
 
-pub ceiling_holds : (sheet : Sheet) (season : Results) (question : Question) (zone : List Literal)
-    (set : ClubSet) → has_finish sheet season zone ≡ true → has_member (clubs_in set) ≡ true
-    → AreMarked (marked_before zone) set
-    → pos 0 <ℤ high_excess sheet season question zone (clubs_in set)
-    → has_reason sheet season question zone (High set) ≡ true
+int_lt-difference : (a b : ℤ) → int_lt a b ≡ int_lt (pos 0) (b -ℤ a)
+int_lt-difference a b = grind (arith, ints)
+
+-- what the reason says, by the excess
+reason_is : (cut : Cut) (sheet : Sheet) (season : Results) (question : Question)
+    (zone : List Literal) (set : ClubSet)
+    → has_reason sheet season question zone (reason_for cut set)
+    ≡ (has_finish sheet season zone
+    && (has_member (clubs_in set) && list_all (marked_for cut zone) (clubs_in set)
+    && int_lt (pos 0) (excess_for cut sheet season question zone (clubs_in set))))
 unfolding has_reason
-ceiling_holds sheet season question zone set finish member all exceeds =
-    and_from (has_finish sheet season zone) _ finish
-    (and_from (has_member (clubs_in set) && list_all (marked_before zone) (clubs_in set)) _
+reason_is Floor sheet season question zone set =
+    ap (λ over. has_finish sheet season zone
+    && (has_member (clubs_in set) && list_all (marked_after zone) (clubs_in set) && over))
+    (int_lt-difference (times (clubs_in set) (own_most sheet season question zone))
+    (least_points_of sheet season zone (clubs_in set)))
+reason_is Ceiling sheet season question zone set =
+    ap (λ over. has_finish sheet season zone
+    && (has_member (clubs_in set) && list_all (marked_before zone) (clubs_in set) && over))
+    (int_lt-difference (most_points_of sheet season zone (clubs_in set))
+    (times (clubs_in set) (own_least sheet season question zone)))
+
+-- a set of marked clubs with an excess has the reason
+cut_holds : (cut : Cut) (sheet : Sheet) (season : Results) (question : Question)
+    (zone : List Literal) (set : ClubSet) → has_finish sheet season zone ≡ true
+    → has_member (clubs_in set) ≡ true → AreMarked (marked_for cut zone) set
+    → pos 0 <ℤ excess_for cut sheet season question zone (clubs_in set)
+    → has_reason sheet season question zone (reason_for cut set) ≡ true
+cut_holds cut sheet season question zone set finish member all exceeds =
+    reason_is cut sheet season question zone set
+    ∙ and_from (has_finish sheet season zone) _ finish
+    (and_from (has_member (clubs_in set) && list_all (marked_for cut zone) (clubs_in set)) _
     (and_from (has_member (clubs_in set)) _ member all)
-    (int_lt-gap (most_points_of sheet season zone (clubs_in set))
-    (times (clubs_in set) (own_least sheet season question zone)) exceeds))
+    (int_lt-gap (pos 0) (excess_for cut sheet season question zone (clubs_in set))
+    (omega (arith, ints, exceeds))))
 
 no_reason : (finish member all over : Bool) → (all ≡ true → over ≡ false)
     → (finish && (member && all && over)) ≡ false
@@ -138,62 +169,32 @@ no_reason true true false over none = refl
 no_reason true true true over none = none refl
 
 -- if no set of marked clubs has an excess, none has the reason
-pub floor_fails : (sheet : Sheet) (season : Results) (question : Question) (zone : List Literal)
-    (set : ClubSet) → (AreMarked (marked_after zone) set
-    → low_excess sheet season question zone (clubs_in set) ≤ℤ pos 0)
-    → has_reason sheet season question zone (Low set) ≡ false
-unfolding has_reason
-floor_fails sheet season question zone set none =
-    no_reason (has_finish sheet season zone) (has_member (clubs_in set))
-    (list_all (marked_after zone) (clubs_in set)) _
-    (λ all. int_lt-no_gap (times (clubs_in set) (own_most sheet season question zone))
-    (least_points_of sheet season zone (clubs_in set)) (none all))
+pub cut_fails : (cut : Cut) (sheet : Sheet) (season : Results) (question : Question)
+    (zone : List Literal) (set : ClubSet) → (AreMarked (marked_for cut zone) set
+    → excess_for cut sheet season question zone (clubs_in set) ≤ℤ pos 0)
+    → has_reason sheet season question zone (reason_for cut set) ≡ false
+cut_fails cut sheet season question zone set none =
+    reason_is cut sheet season question zone set
+    ∙ no_reason (has_finish sheet season zone) (has_member (clubs_in set))
+    (list_all (marked_for cut zone) (clubs_in set)) _
+    (λ all. int_lt-no_gap (pos 0) (excess_for cut sheet season question zone (clubs_in set))
+    (omega (arith, ints, none all)))
 
-pub ceiling_fails : (sheet : Sheet) (season : Results) (question : Question) (zone : List Literal)
-    (set : ClubSet) → (AreMarked (marked_before zone) set
-    → high_excess sheet season question zone (clubs_in set) ≤ℤ pos 0)
-    → has_reason sheet season question zone (High set) ≡ false
-unfolding has_reason
-ceiling_fails sheet season question zone set none =
-    no_reason (has_finish sheet season zone) (has_member (clubs_in set))
-    (list_all (marked_before zone) (clubs_in set)) _
-    (λ all. int_lt-no_gap (most_points_of sheet season zone (clubs_in set))
-    (times (clubs_in set) (own_least sheet season question zone)) (none all))
-
--- what is found is a floor cut
-pub floor_found : (sheet : Sheet) (season : Results) (question : Question) (zone : List Literal)
-    (table : List ℤ) (pairs : List Pair) (rivals : ClubSet) (chosen : Option ClubSet)
-    → GivesExcess table pairs rivals (marked_after zone) (low_excess sheet season question zone)
+-- what is found is a cut
+pub cut_found : (cut : Cut) (sheet : Sheet) (season : Results) (question : Question)
+    (zone : List Literal) (table : List ℤ) (pairs : List Pair) (rivals : ClubSet)
+    (chosen : Option ClubSet) → GivesExcess table pairs rivals (marked_for cut zone)
+    (excess_for cut sheet season question zone)
     → has_finish sheet season zone ≡ true
     → MatchOption chosen (HasNoExcess table pairs (side_of rivals))
-    (IsAnsweredSet table pairs (side_of
-    rivals))
-    → IfSome chosen (λ set. has_reason sheet season question zone (Low set) ≡ true)
-floor_found sheet season question zone table pairs rivals None gives finish is = tt
-floor_found sheet season question zone table pairs rivals (Some set) gives finish is =
-    let over = answer_exceeds table pairs rivals (marked_after zone) (low_excess sheet season
-    question zone) set gives is in
-    floor_holds sheet season question zone set finish
-    (some_member table pairs rivals (marked_after zone) (low_excess sheet season question zone)
-    set gives over.0 over.1)
-    over.0 over.1
-
-pub ceiling_found : (sheet : Sheet) (season : Results) (question : Question) (zone : List Literal)
-    (table : List ℤ) (pairs : List Pair) (rivals : ClubSet) (chosen : Option ClubSet)
-    → GivesExcess table pairs rivals (marked_before zone) (high_excess sheet season question
-    zone)
-    → has_finish sheet season zone ≡ true
-    → MatchOption chosen (HasNoExcess table pairs (side_of rivals))
-    (IsAnsweredSet table pairs (side_of
-    rivals))
-    → IfSome chosen (λ set. has_reason sheet season question zone (High set) ≡ true)
-ceiling_found sheet season question zone table pairs rivals None gives finish is = tt
-ceiling_found sheet season question zone table pairs rivals (Some set) gives finish is =
-    let over = answer_exceeds table pairs rivals (marked_before zone) (high_excess sheet season
-    question zone) set gives is in
-    ceiling_holds sheet season question zone set finish
-    (some_member table pairs rivals (marked_before zone) (high_excess sheet season question
-    zone) set gives over.0 over.1)
+    (IsAnsweredSet table pairs (side_of rivals))
+    → IfSome chosen (λ set. has_reason sheet season question zone (reason_for cut set) ≡ true)
+cut_found cut sheet season question zone table pairs rivals None gives finish is = tt
+cut_found cut sheet season question zone table pairs rivals (Some set) gives finish is =
+    let excess = excess_for cut sheet season question zone in
+    let over = answer_exceeds table pairs rivals (marked_for cut zone) excess set gives is in
+    cut_holds cut sheet season question zone set finish
+    (some_member table pairs rivals (marked_for cut zone) excess set gives over.0 over.1)
     over.0 over.1
 
 -- if none is found no set of marked clubs has an excess
@@ -227,16 +228,9 @@ no_set_of_marked true over marked (club ∷ clubs) none =
     ap (λ b. (b && list_all marked clubs) && over) (none club)
 
 -- if no club is marked no set has the reason
-pub floor_unmarked : (sheet : Sheet) (season : Results) (question : Question) (zone : List Literal)
-    (set : ClubSet) → ((club : ℕ) → marked_after zone club ≡ false)
-    → has_reason sheet season question zone (Low set) ≡ false
-unfolding has_reason
-floor_unmarked sheet season question zone set none =
-    no_set_of_marked (has_finish sheet season zone) _ (marked_after zone) (clubs_in set) none
-
-pub ceiling_unmarked : (sheet : Sheet) (season : Results) (question : Question)
-    (zone : List Literal) (set : ClubSet) → ((club : ℕ) → marked_before zone club ≡ false)
-    → has_reason sheet season question zone (High set) ≡ false
-unfolding has_reason
-ceiling_unmarked sheet season question zone set none =
-    no_set_of_marked (has_finish sheet season zone) _ (marked_before zone) (clubs_in set) none
+pub cut_unmarked : (cut : Cut) (sheet : Sheet) (season : Results) (question : Question)
+    (zone : List Literal) (set : ClubSet) → ((club : ℕ) → marked_for cut zone club ≡ false)
+    → has_reason sheet season question zone (reason_for cut set) ≡ false
+cut_unmarked cut sheet season question zone set none =
+    reason_is cut sheet season question zone set
+    ∙ no_set_of_marked (has_finish sheet season zone) _ (marked_for cut zone) (clubs_in set) none

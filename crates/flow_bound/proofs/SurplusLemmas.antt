@@ -1,6 +1,6 @@
 -- The surplus of a fixture by the outcomes that are among its options.
 use Rattle.std.proofs.Common.{◌≡◌, ℕ, ◌+◌, ◌-◌, Bool, true, false, not, ◌||◌, List, pos, ◌-ℤ◌}
-use Rattle.std.proofs.Common.{refl, ◌∙◌}
+use Rattle.std.proofs.Common.{refl, ◌∙◌, arith}
 use Rattle.std.proofs.lemmas.Bool.{false_from_ne_true}
 use Rattle.league_core.specs.declared.season.Score.{Score}
 use Rattle.score_box.specs.declared.cell.Cell.{Cell}
@@ -44,25 +44,11 @@ most_beyond home draw away =
 
 floor_case : (home draw away : Bool)
     → surplus_left Floor home draw away ≡ least_beyond home draw away
-floor_case true true true = refl
-floor_case true true false = refl
-floor_case true false true = refl
-floor_case true false false = refl
-floor_case false true true = refl
-floor_case false true false = refl
-floor_case false false true = refl
-floor_case false false false = refl
+floor_case home draw away = grind (arith)
 
 ceiling_case : (home draw away : Bool)
     → surplus_left Ceiling home draw away ≡ most_beyond home draw away
-ceiling_case true true true = refl
-ceiling_case true true false = refl
-ceiling_case true false true = refl
-ceiling_case true false false = refl
-ceiling_case false true true = refl
-ceiling_case false true false = refl
-ceiling_case false false true = refl
-ceiling_case false false false = refl
+ceiling_case home draw away = grind (arith)
 
 -- what the outcomes give is the surplus of the options
 pub left_surplus : (cut : Cut) (cell : Cell) (left : OutcomesLeft) (options : List Score)
