@@ -14,6 +14,7 @@ use Rattle.league_core.specs.search.Options.{has_score, has_option, options_in}
 use Rattle.league_core.specs.search.PointRanges.{Range, range_of, points_together}
 use Rattle.league_core.proofs.OptionLemmas.{has_score-first}
 use Rattle.league_core.proofs.plain.Lists.{list_all-at}
+use Rattle.league_core.proofs.plain.TruthValues.{and_comm}
 use Rattle.near_laws.specs.Fits.{can_reach, is_fit, fit_options, have_fit, range_in}
 use Rattle.near_bound.specs.declared.zone_left.ZoneLeft.{ZoneLeft}
 use Rattle.near_bound.specs.inside.Points.{is_fit_by}
@@ -161,13 +162,7 @@ pub both_have : (left : ZoneLeft) (zone : List Literal) (points : ℤ) (front ba
 both_have left zone points front back k d is stands inside has_front has_back (inl out) =
     some_with left zone points (back ∷ []) (front ∷ back ∷ []) front k d is stands inside
     (some_fit left zone points (back ∷ []) k is stands inside has_back) has_front out
-    (λ test. swapped (test front) (test back))
-  where
-    swapped : (a b : Bool) → (a && (b && true)) ≡ ((b && true) && a)
-    swapped true true = refl
-    swapped true false = refl
-    swapped false true = refl
-    swapped false false = refl
+    (λ test. and_comm (test front) (test back && true))
 both_have left zone points front back k d is stands inside has_front has_back (inr out) =
     some_with left zone points (front ∷ []) (front ∷ back ∷ []) back k d is stands inside
     (some_fit left zone points (front ∷ []) k is stands inside has_front) has_back out

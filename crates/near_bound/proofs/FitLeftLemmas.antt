@@ -105,11 +105,7 @@ some_left left options (Some worst) is left_of =
 -- the outcome and the goals, or the goals and the outcome
 pub in_order : (left goals outcome : Bool)
     → ((left && outcome) && goals) ≡ (left && (goals && outcome))
-in_order true true true = refl
-in_order true true false = refl
-in_order true false true = refl
-in_order true false false = refl
-in_order false goals outcome = refl
+in_order left goals outcome = grind (arith)
 
 -- ---- which outcomes are fit
 

@@ -100,10 +100,7 @@ turned_two : (first second side : ℕ)
 turned_two first second side = either (second == side) (first == side)
   where
     either : (a b : Bool) → (a || (b || false)) ≡ (b || (a || false))
-    either true true = refl
-    either true false = refl
-    either false true = refl
-    either false false = refl
+    either a b = grind (arith)
 
 sum_turned : (worth : Worth) (first second club : ℕ) (matches : List Fixture)
     (scores : List (Option Score))

@@ -2,13 +2,14 @@
 use Rattle.std.proofs.Common.{◌≡◌, ◌≢◌, ℕ, ℤ, ◌<◌, ◌⊎◌, Bool, true, false, not, ◌&&◌, ◌||◌}
 use Rattle.std.proofs.Common.{◌==◌}
 use Rattle.std.proofs.Common.{cond, List, [], ◌∷◌, length, get_or, Option, refl}
-use Rattle.std.proofs.Common.{sym, ap, ◌∙◌, eq-eqb, inl, inr}
+use Rattle.std.proofs.Common.{sym, ap, ◌∙◌, eq-eqb, inl, inr, arith}
 use Rattle.std.proofs.Math.Bool.{or-true, or-false}
 use Rattle.std.proofs.lemmas.Bool.{ne_eqb, eqb-true, cases_eq, true≢false, or_cases}
 use Rattle.league_core.specs.declared.sheet.Fixture.{Fixture}
 use Rattle.league_core.specs.declared.season.Score.{Score}
 use Rattle.league_core.specs.declared.zone.Literal.{Literal}
 use Rattle.league_core.specs.game.Sums.{has_club}
+use Rattle.league_core.proofs.plain.TruthValues.{and_comm}
 use Rattle.near_laws.specs.Leads.{added_leads, least_of, numbers_at, margins, worth_against}
 use Rattle.near_laws.specs.SureLeads.{record_worths}
 use Rattle.near_bound.specs.declared.margin.Margin.{Margin}
@@ -51,10 +52,7 @@ rival_out tie zone front back rival k d lead of_tie is inside common has_rival o
     has_rival out (λ test. split (test front) (test back) (test rival)))
   where
     split : (a b c : Bool) → (a && (b && (c && true))) ≡ ((a && (b && true)) && c)
-    split true true true = refl
-    split true true false = refl
-    split true false c = refl
-    split false b c = refl
+    split a b c = grind (arith)
 
 -- neither of the two plays
 pub two_out : (tie : Tie) (zone : List Literal) (front back rival k : ℕ) (d : Fixture)
@@ -81,22 +79,8 @@ two_out tie zone front back rival k d lead of_tie is inside has_front has_back h
     (some_with left zone tie.points (rival ∷ []) (back ∷ rival ∷ []) back k d of_tie.left is.stands
     inside
     (some_fit left zone tie.points (rival ∷ []) k of_tie.left is.stands inside has_rival) has_back
-    also (λ test. turn (test back) (test rival)))
-    has_front out (λ test. turn_more (test front) (test back) (test rival)))
-  where
-    turn : (a b : Bool) → (a && (b && true)) ≡ ((b && true) && a)
-    turn true true = refl
-    turn true false = refl
-    turn false true = refl
-    turn false false = refl
-
-    turn_more : (a b c : Bool) → (a && (b && (c && true))) ≡ ((b && (c && true)) && a)
-    turn_more true true true = refl
-    turn_more true true false = refl
-    turn_more true false c = refl
-    turn_more false true true = refl
-    turn_more false true false = refl
-    turn_more false false c = refl
+    also (λ test. and_comm (test back) (test rival && true)))
+    has_front out (λ test. and_comm (test front) (test back && (test rival && true))))
 
 -- it plays one of the two
 pub rival_takes : (tie : Tie) (zone : List Literal) (front back rival k : ℕ) (match d : Fixture)
