@@ -40,7 +40,7 @@ use Rattle.cup_groups.specs.inside.KindQuestions.{group_question_of}
 use Rattle.cup_grammar.specs.PlacedGroups.{PlacedGroup, has_placed_club, is_reason_of_kind}
 use Rattle.cup_grammar.specs.PlacedGroups.{own_club, own_set, refuted_node}
 use Rattle.cup_grammar.specs.CupDues.{CupDue, after_group_leaf, after_group_node, nodes}
-use Rattle.cup_check.specs.declared.tree.GroupTreeSpec.{GroupTreeSpec}
+use Rattle.cup_check.specs.declared.walk.GroupTreeSpec.{GroupTreeSpec}
 use Rattle.cup_check.specs.inside.CupTreeCalls.{IsPathInGroup, own_numbers}
 
 -- the tests of the way are of the group

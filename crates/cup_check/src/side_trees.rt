@@ -17,7 +17,7 @@ ghost use Rattle.cup_check.specs.inside.CupSideCalls.{after_tree_head_if};
 use crate::claimed_side::ClaimedSide;
 use crate::place::GroupPlace;
 use crate::report::CupReport;
-use crate::tree::GroupTreeSpec;
+use crate::walk::GroupTreeSpec;
 use cert_check::CheckStopAt;
 use club_keys::ClubKey;
 use cup_grammar::CupToken;

@@ -11,7 +11,7 @@ ghost use Rattle.cup_check.specs.inside.CupSideCalls.{TakesSpentInCup};
 
 use crate::keys::key_of;
 use crate::report::CupReport;
-use crate::tree::GroupTreeSpec;
+use crate::walk::GroupTreeSpec;
 use cert_check::CheckStopAt;
 use cup_grammar::CupToken;
 use cup_groups::KindQuestion;

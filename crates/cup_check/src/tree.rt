@@ -13,18 +13,9 @@ ghost use Rattle.cup_check.specs.inside.CupTreeCalls.{group_nodes_due};
 
 use crate::place::GroupPlace;
 use crate::report::CupReport;
-use crate::walk::GroupWalk;
+use crate::walk::{GroupTreeSpec, GroupWalk};
 use cert_check::CheckStopAt;
 use cup_grammar::CupToken;
-use cup_groups::KindQuestion;
-use line_tokens::TreeKind;
-
-/// What kind of tree, for which question.
-#[derive(Clone, Copy)]
-pub struct GroupTreeSpec {
-    pub kind: TreeKind,
-    pub question: KindQuestion,
-}
 
 impl<'a> CupReport<'a> {
     /// The nodes of a tree about a group from its root on.

@@ -1,4 +1,4 @@
-//! Where the reading of a tree about a group stands, and what a node makes of that.
+//! What tree about a group is read, where its reading stands, and what a node makes of that.
 
 ghost use Rattle.std.specs.Prelude.{◌≡◌, ◌<◌, ◌≤◌, ◌+◌, ◌^◌, ℕ, OnOk, IfOk, true, false, length};
 ghost use Rattle.check_bounds.specs.inside.Trails.{root_of};
@@ -13,13 +13,20 @@ ghost use Rattle.cup_check.specs.inside.CupTreeCalls.{node_seen};
 
 use crate::leaf::GroupNode;
 use crate::place::GroupPlace;
-use crate::tree::GroupTreeSpec;
 use cert_check::{CheckStopAt, Tally, is_tally_whole, next_half, with_fresh};
 use check_bounds::Trail;
+use cup_groups::KindQuestion;
 use cup_sheet::GroupReason;
 use league_core::{Literal, OutOfMemory, Test};
-use line_tokens::is_test_for;
+use line_tokens::{TreeKind, is_test_for};
 use std::alloc::Global;
+
+/// What kind of tree, for which question.
+#[derive(Clone, Copy)]
+pub struct GroupTreeSpec {
+    pub kind: TreeKind,
+    pub question: KindQuestion,
+}
 
 /// Where the reading of a tree stands: the way to the zone that is due, and what was counted.
 #[derive(Drop)]

@@ -13,7 +13,7 @@ use Rattle.cup_grammar.specs.CupDues.{CupDue, after_group_node, nodes}
 use Rattle.cup_check.specs.inside.CupGoes.{CupReportView, HaltsInCup, cup_ending_from}
 use Rattle.cup_check.specs.declared.leaf.GroupNode.{GroupNode}
 use Rattle.cup_check.specs.declared.leaf.GroupNode.TheVariants as told
-use Rattle.cup_check.specs.declared.tree.GroupTreeSpec.{GroupTreeSpec}
+use Rattle.cup_check.specs.declared.walk.GroupTreeSpec.{GroupTreeSpec}
 use Rattle.cup_check.specs.declared.walk.GroupWalk.{GroupWalk}
 
 -- the clubs of a cut by their numbers in the group, if all are of it
