@@ -8,8 +8,5 @@ pub mod NewTreeLemmas
 pub mod ExampleLineLemmas
 pub mod PartLemmas
 pub mod OutputLemmas
-pub mod LineLemmas
 pub mod TableLemmas
 pub mod PlaceLemmas
-pub mod VerdictLemmas
-pub mod ScoreLemmas

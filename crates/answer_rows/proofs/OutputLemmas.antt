@@ -1,6 +1,9 @@
 -- Answers that go out row by row.
-use Rattle.std.proofs.Common.{◌≡◌, List, ◌++◌, Option, Result, Ok, Err, ap, sym, ◌∙◌, ℕ}
+use Rattle.std.proofs.Common.{◌≡◌, ℕ, suc, ◌+◌, ◌<◌, List, ◌++◌, length, drop, get_or, Option}
+use Rattle.std.proofs.Common.{Result, Ok, Err, ap, sym, ◌∙◌, add-one}
 use Rattle.std.specs.Io.KnownBytes.{append_known}
+use Rattle.std.specs.List.{flat_map}
+use Rattle.std.proofs.Math.Seq.{drop-cons}
 use Rattle.std.proofs.lemmas.List.{append_assoc}
 use Rattle.port_core.specs.Ports.{AppendsPrefix}
 use Rattle.answer_rows.specs.declared.output.OutputStop.{OutputStop}
@@ -12,6 +15,15 @@ pub record IsDue (text rest : List ℕ) (old now : Option (List ℕ)) : Type 0 w
   pub part : List ℕ
   pub split : text ≡ part ++ rest
   pub known : now ≡ append_known old part
+
+-- the text of the next of the elements that are left
+pub text-next : {X : Type 0} (text : X → List ℕ) (all : List X) (i : ℕ) (none one : X)
+    → i < length all → one ≡ get_or all i none
+    → flat_map text (drop i all) ≡ text one ++ flat_map text (drop (i + 1) all)
+text-next {X} text all i none one inside is =
+    ap (flat_map text) (drop-cons all i none inside)
+    ∙ ap (λ x. text x ++ flat_map text (drop (suc i) all)) (sym is)
+    ∙ ap (λ n. text one ++ flat_map text (drop n all)) (sym (add-one i))
 
 -- a piece more was written
 pub due-more : (text rest piece after : List ℕ) (old now next : Option (List ℕ))

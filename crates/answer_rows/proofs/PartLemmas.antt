@@ -55,7 +55,7 @@ refuted_part sheet season question tree lines shown are = record {
 
 -- a tree on which the budget was spent as a part
 pub spent_part : {E : Type 0} (sheet : Sheet) (season : Results) (question : Question) (tree : Tree)
-    (result : Result Part E) → IsFairSpentTree sheet season question sheet.budget tree
+    (result : Result (Part ProofLine) E) → IsFairSpentTree sheet season question sheet.budget tree
     → is_all_new tree ≡ true → IfOk result (λ part. part.kind ≡ Spent)
     → IfOk result
     (λ part. part.lines.items ≡ with_spent_head question.claim (marked_lines tree))

@@ -1,23 +1,17 @@
 -- The rows of a table, club by club, and their text.
-use Rattle.std.proofs.Common.{◌≡◌, ℕ, ◌+◌, ◌<◌, List, [], ◌∷◌, ◌++◌, length, take, map, drop}
-use Rattle.std.proofs.Common.{get_or, Option, Result, refl, ap, sym, ◌∙◌, subst, add-one}
+use Rattle.std.proofs.Common.{◌≡◌, ℕ, ◌+◌, ◌<◌, List, [], ◌∷◌, ◌++◌, length, take, map, get_or}
+use Rattle.std.proofs.Common.{refl, ap, sym, ◌∙◌, subst}
 use Rattle.std.specs.Prelude.{All}
-use Rattle.std.specs.Io.KnownBytes.{append_known}
-use Rattle.std.proofs.Math.Seq.{drop-cons}
 use Rattle.std.proofs.lemmas.List.{map-append, take_more}
 use Rattle.std.proofs.lemmas.List.Elements.{All-push, All-head, All-tail}
 use Rattle.league_core.specs.declared.sheet.Sheet.{Sheet}
 use Rattle.league_core.specs.game.Results.{Results}
-use Rattle.port_core.specs.Ports.{AppendsPrefix}
-use Rattle.answer_rows.specs.declared.output.OutputStop.{OutputStop}
 use Rattle.answer_rows.specs.declared.table.ClubRow.{ClubRow}
 use Rattle.answer_rows.specs.Parts.{IsMadeOf, club_name}
-use Rattle.answer_rows.specs.Rows.{ask_row, place_row}
+use Rattle.answer_rows.specs.Rows.{place_row}
 use Rattle.answer_rows.specs.Tables.{IsTableRow, IsPlaceRow, IsTableText}
-use Rattle.answer_rows.specs.inside.Outputs.{Puts}
 use Rattle.answer_rows.specs.inside.Places.{AreInSheet, AreTableRows, text_of_places}
 use Rattle.answer_rows.specs.inside.Places.{text_of_table}
-use Rattle.answer_rows.proofs.OutputLemmas.{front-more, puts-behind}
 
 -- ---- making them
 
@@ -75,32 +69,3 @@ table_text-is sheet season epoch rows are = (
   refl,
   places-made sheet season rows are.each,
 )
-
--- ---- writing them
-
--- the next of the rows that are left
-pub places-next : (sheet : Sheet) (rows : List ClubRow) (i : ℕ) (none : ClubRow)
-    → i < length rows
-    → text_of_places sheet (drop i rows)
-    ≡ place_row (club_name sheet (get_or rows i none).club) (get_or rows i none).row
-    ++ text_of_places sheet (drop (i + 1) rows)
-places-next sheet rows i none inside =
-    let next : List ℕ =
-    place_row (club_name sheet (get_or rows i none).club) (get_or rows i none).row in
-    ap (text_of_places sheet) (drop-cons rows i none inside)
-    ∙ ap (λ n. next ++ text_of_places sheet (drop n rows)) (sym (add-one i))
-
--- the row of the ask and what is written after it, whole or a prefix of it
-pub table-put : {A : Type 0} (sheet : Sheet) (epoch : ℕ) (rows : List ClubRow)
-    (old now next : Option (List ℕ)) (result : Result A OutputStop)
-    → now ≡ append_known old (ask_row epoch) → Puts (text_of_places sheet rows) now next result
-    → Puts (text_of_table sheet epoch rows) old next result
-table-put {A} sheet epoch rows old now next result before puts =
-    puts-behind (ask_row epoch) (text_of_places sheet rows) old now next result before puts
-
--- a prefix of the row of the ask is one of the answer
-pub table-front : (sheet : Sheet) (epoch : ℕ) (rows : List ClubRow) (old now : Option (List ℕ))
-    → AppendsPrefix old now (ask_row epoch)
-    → AppendsPrefix old now (text_of_table sheet epoch rows)
-table-front sheet epoch rows old now front =
-    front-more (ask_row epoch) (text_of_places sheet rows) old now front

@@ -76,7 +76,7 @@ IsItemShown proofs sheet season line club Unsettled lines =
     ShowsUnsettled sheet season line club lines
 
 -- a verdict is right, and its lines show it with proofs
-abbrev pub IsShownVerdict : Sheet → Results → Verdict → Type 0
+abbrev pub IsShownVerdict : Sheet → Results → Verdict ProofLine → Type 0
 IsShownVerdict sheet season verdict =
     IsItemShown true sheet season verdict.line verdict.club verdict.word verdict.proof.items
 
@@ -86,7 +86,7 @@ pub record AnswerRow : Type 0 where
   pub club : ℕ
 
 -- the row of a verdict
-abbrev pub answer_row : Verdict → AnswerRow
+abbrev pub answer_row : {L : Type 0} → Verdict L → AnswerRow
 answer_row verdict = record { line = verdict.line; club = verdict.club }
 
 -- the rows about a line, for so many clubs in their order
@@ -99,6 +99,7 @@ abbrev pub answer_rows : Sheet → List AnswerRow
 answer_rows sheet = flat_map (answer_rows_of (length sheet.clubs)) sheet.lines
 
 -- one verdict for each row of an answer, each of them right and shown
-pub record AreVerdictsOf (sheet : Sheet) (season : Results) (verdicts : List Verdict) : Type 0 where
+pub record AreVerdictsOf (sheet : Sheet) (season : Results) (verdicts : List (Verdict ProofLine))
+    : Type 0 where
   pub rows : map answer_row verdicts ≡ answer_rows sheet
   pub each : All (IsShownVerdict sheet season) verdicts

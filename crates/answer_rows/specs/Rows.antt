@@ -1,9 +1,8 @@
 -- The rows of the output. A row of fields is written as csv writes a record, with quotes where they
 -- are needed; a row that shows a part of an example or a tree is a proof line. Each ends with LF.
 use Rattle.std.specs.Prelude.{ℕ, List, [], ◌∷◌, ◌++◌, codes, decimal, ℤ}
-use Rattle.cert_text.specs.declared.proof_line.ProofLine.{ProofLine}
+use Rattle.std.specs.List.{flat_map}
 use Rattle.cert_text.specs.Rows.{text_of_row}
-use Rattle.cert_text.specs.Lines.{text_of_proof_line}
 use Rattle.std.specs.Fmt.{signed_decimal}
 use Rattle.answer_rows.specs.declared.word.Word.{Word}
 use Rattle.answer_rows.specs.declared.word.Word.TheVariants.{Clinched, Lost, Possible, Unsettled}
@@ -16,9 +15,13 @@ use Rattle.answer_rows.specs.declared.bound.Score2.{Score2}
 abbrev pub ask_row : ℕ → List ℕ
 ask_row epoch = text_of_row (codes "ask" ∷ decimal epoch ∷ [])
 
--- a proof line alone on its row
-abbrev pub line_row : ProofLine → List ℕ
-line_row shown = text_of_proof_line shown ++ 10 ∷ []
+-- a line of a proof alone on its row, by the text of such a line
+abbrev pub line_row : {L : Type 0} → (L → List ℕ) → L → List ℕ
+line_row text shown = text shown ++ 10 ∷ []
+
+-- the lines of a proof, each on a row of its own
+abbrev pub text_of_lines : {L : Type 0} → (L → List ℕ) → List L → List ℕ
+text_of_lines text lines = flat_map (line_row text) lines
 
 -- how a word is written
 abbrev pub word_text : Word → List ℕ

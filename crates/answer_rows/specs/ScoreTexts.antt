@@ -1,6 +1,7 @@
 -- What the mode `scores` answers: for each line and each club the row of its two numbers, and
 -- after it the spent trees of those that are a range, that of the possible score first.
-use Rattle.std.specs.Prelude.{ℕ, List, [], ◌∷◌, ◌++◌}
+use Rattle.std.specs.Prelude.{ℕ, List, [], ◌++◌}
+use Rattle.std.specs.List.{flat_map}
 use Rattle.league_core.specs.declared.sheet.Sheet.{Sheet}
 use Rattle.cert_text.specs.ExampleLines.{text_of_proof_lines}
 use Rattle.cert_text.specs.declared.proof_line.ProofLine.{ProofLine}
@@ -30,9 +31,7 @@ score_item sheet found =
 
 -- the items, in their order
 abbrev pub text_of_score_items : Sheet → List ClubScores → List ℕ
-text_of_score_items sheet [] = []
-text_of_score_items sheet (found ∷ scores) =
-    score_item sheet found ++ text_of_score_items sheet scores
+text_of_score_items sheet scores = flat_map (score_item sheet) scores
 
 -- the row of the ask, then the items
 abbrev pub text_of_scores : Sheet → ℕ → List ClubScores → List ℕ

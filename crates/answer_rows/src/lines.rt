@@ -1,14 +1,12 @@
-//! The row of an ask, and proof lines, each a row of its own.
+//! The row of an ask, and lines of proofs, each a row of its own.
 
 ghost use Rattle.std.specs.Prelude.{◌≡◌, All, IsTrue};
-ghost use Rattle.cert_text.specs.Ranges.{is_in_range};
-ghost use Rattle.cert_text.specs.ExampleLines.{text_of_proof_lines};
 ghost use Rattle.answer_rows.specs.inside.Outputs.{CountsPut, Puts};
-ghost use Rattle.answer_rows.specs.Rows.{ask_row, line_row};
+ghost use Rattle.answer_rows.specs.Rows.{ask_row, line_row, text_of_lines};
 
 use crate::output::{OutputStop, put_part};
 use crate::rows::{ask_row, line_row};
-use cert_text::ProofLine;
+use cert_text::LineText;
 use port_core::Sink;
 use std::alloc::Global;
 
@@ -24,20 +22,20 @@ pub fn put_ask<K: Sink>(alloc: Global, epoch: u64, sink: &mut K) -> Result<(), O
     }
 }
 
-/// Writes proof lines, each on a row of its own. After a stop a prefix of these rows went out,
+/// Writes lines of proofs, each on a row of its own. After a stop a prefix of these rows went out,
 /// perhaps none of it.
-pub fn put_lines<K: Sink>(
+pub fn put_lines<L: LineText, K: Sink>(
     alloc: Global,
-    lines: &[ProofLine],
+    lines: &[L],
     sink: &mut K,
 ) -> Result<(), OutputStop>
-    requires { All (λ line. IsTrue (is_in_range line)) lines.now }
-    ensures text { Puts (text_of_proof_lines lines.now) (K.holds sink.old) (K.holds sink.new)
+    requires { All (λ line. IsTrue (L.in_range line)) lines.now }
+    ensures text { Puts (text_of_lines L.text lines.now) (K.holds sink.old) (K.holds sink.new)
         result }
     ensures counts { CountsPut (K.faults sink.old) (K.faults sink.new) result }
 {
     for line in lines {
-        match put_proof_line(alloc, line, sink) {
+        match put_line(alloc, line, sink) {
             Ok(()) => {}
             Err(stop) => return Err(stop),
         }
@@ -45,9 +43,9 @@ pub fn put_lines<K: Sink>(
     Ok(())
 }
 
-fn put_proof_line<K: Sink>(alloc: Global, line: &ProofLine, sink: &mut K) -> Result<(), OutputStop>
-    requires { IsTrue (is_in_range line.now) }
-    ensures text { Puts (line_row line.now) (K.holds sink.old) (K.holds sink.new) result }
+fn put_line<L: LineText, K: Sink>(alloc: Global, line: &L, sink: &mut K) -> Result<(), OutputStop>
+    requires { IsTrue (L.in_range line.now) }
+    ensures text { Puts (line_row L.text line.now) (K.holds sink.old) (K.holds sink.new) result }
     ensures counts { CountsPut (K.faults sink.old) (K.faults sink.new) result }
 {
     match line_row(alloc, line) {

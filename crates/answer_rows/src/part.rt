@@ -30,12 +30,12 @@ pub enum PartKind {
 
 /// The lines that stand for a question in an answer, and what they show.
 #[derive(Drop)]
-pub struct Part {
+pub struct Part<L = ProofLine> {
     pub kind: PartKind,
-    pub lines: Vec<ProofLine>,
+    pub lines: Vec<L>,
 }
 
-impl Part {
+impl Part<ProofLine> {
     /// The part of an example, which is shown by its lines.
     pub fn won(
         alloc: Global,
@@ -103,7 +103,7 @@ pub fn word_of(inside: PartKind, outside: PartKind) -> Word
 }
 
 /// The lines after the word, out of those of the two parts.
-pub fn joined(word: Word, inside: Part, outside: Part) -> Result<Vec<ProofLine>, OutOfMemory>
+pub fn joined<L: Drop>(word: Word, inside: Part<L>, outside: Part<L>) -> Result<Vec<L>, OutOfMemory>
     ensures { IfOk result (λ lines. lines.items
         ≡ proof_by word inside.lines.items outside.lines.items) }
 {

@@ -1,10 +1,9 @@
 //! The answer of the mode `table`, row by row.
 
 ghost use Rattle.std.specs.Prelude.{◌<◌, length};
-ghost use Rattle.answer_rows.specs.Parts.{club_name};
-ghost use Rattle.answer_rows.specs.Rows.{place_row};
 ghost use Rattle.answer_rows.specs.inside.Outputs.{CountsPut, Puts};
-ghost use Rattle.answer_rows.specs.inside.Places.{AreInSheet, text_of_places, text_of_table};
+ghost use Rattle.answer_rows.specs.inside.Places.{AreInSheet, text_of_place, text_of_places};
+ghost use Rattle.answer_rows.specs.inside.Places.{text_of_table};
 
 use crate::fields::club_name;
 use crate::lines::put_ask;
@@ -62,8 +61,8 @@ fn put_place<K: Sink>(
     sink: &mut K,
 ) -> Result<(), OutputStop>
     requires { found.now.club < length sheet.now.clubs }
-    ensures text { Puts (place_row (club_name sheet.now found.now.club) found.now.row)
-        (K.holds sink.old) (K.holds sink.new) result }
+    ensures text { Puts (text_of_place sheet.now found.now) (K.holds sink.old) (K.holds sink.new)
+        result }
     ensures counts { CountsPut (K.faults sink.old) (K.faults sink.new) result }
 {
     match place_row(alloc, club_name(sheet, found.club), &found.row) {

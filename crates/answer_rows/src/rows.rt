@@ -1,14 +1,13 @@
 //! The rows of the output, each ended by LF.
 
 ghost use Rattle.std.specs.Prelude.{◌≡◌, IfOk, IsTrue};
-ghost use Rattle.cert_text.specs.Ranges.{is_in_range};
 ghost use Rattle.answer_rows.specs.Rows.{ask_row, line_row, place_row, score_row, verdict_row};
 
 use crate::bound::Score2;
 use crate::fields::{bound_field, number_field, signed_field, text_field, word_text};
 use crate::table_row::TableRow;
 use crate::word::Word;
-use cert_text::{ProofLine, write_line, write_row};
+use cert_text::{LineText, write_row};
 use league_core::OutOfMemory;
 use std::alloc::Global;
 
@@ -20,12 +19,12 @@ pub(crate) fn ask_row(alloc: Global, epoch: u64) -> Result<Vec<u8>, OutOfMemory>
     write_row(alloc, &fields)
 }
 
-/// A proof line alone on its row.
-pub(crate) fn line_row(alloc: Global, line: &ProofLine) -> Result<Vec<u8>, OutOfMemory>
-    requires { IsTrue (is_in_range line.now) }
-    ensures { IfOk result (λ row. row.items ≡ line_row line.now) }
+/// A line of a proof alone on its row.
+pub(crate) fn line_row<L: LineText>(alloc: Global, line: &L) -> Result<Vec<u8>, OutOfMemory>
+    requires { IsTrue (L.in_range line.now) }
+    ensures { IfOk result (λ row. row.items ≡ line_row L.text line.now) }
 {
-    let mut row = write_line(alloc, line)?;
+    let mut row = line.write(alloc)?;
     row.push(b'\n')?;
     Ok(row)
 }

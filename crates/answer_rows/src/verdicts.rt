@@ -1,12 +1,10 @@
-//! The answer of the mode `verdicts`, row by row: the word for every club and every line, and
-//! after it what shows it.
+//! An answer of verdicts, row by row: the word for every club and every line, and after it what
+//! shows it.
 
 ghost use Rattle.std.specs.Prelude.{All, IsTrue};
-ghost use Rattle.cert_text.specs.Ranges.{is_in_range};
-ghost use Rattle.cert_text.specs.ExampleLines.{text_of_proof_lines};
 ghost use Rattle.answer_rows.specs.inside.ItemRanges.{AreInRange, IsInRange, lines_shown};
 ghost use Rattle.answer_rows.specs.inside.Outputs.{CountsPut, Puts};
-ghost use Rattle.answer_rows.specs.Rows.{verdict_row};
+ghost use Rattle.answer_rows.specs.Rows.{text_of_lines, verdict_row};
 ghost use Rattle.answer_rows.specs.inside.Verdicts.{item_text, text_of_items, text_of_verdicts};
 
 use crate::fields::club_name;
@@ -14,22 +12,23 @@ use crate::lines::{put_ask, put_lines};
 use crate::output::{OutputStop, put_part};
 use crate::rows::verdict_row;
 use crate::word::{Verdict, Word};
+use cert_text::LineText;
 use league_core::Sheet;
 use port_core::Sink;
 use std::alloc::Global;
 
 /// Writes the row of an ask and the items of its verdicts, with refutations if proofs are asked
 /// for. `epoch` is how many events the season took.
-pub fn put_verdicts<K: Sink>(
+pub fn put_verdicts<L: LineText, K: Sink>(
     alloc: Global,
     proofs: bool,
     sheet: &Sheet,
     epoch: u64,
-    verdicts: &[Verdict],
+    verdicts: &[Verdict<L>],
     sink: &mut K,
 ) -> Result<(), OutputStop>
-    requires { AreInRange sheet.now verdicts.now }
-    ensures text { Puts (text_of_verdicts proofs sheet.now epoch verdicts.now)
+    requires { AreInRange L.in_range sheet.now verdicts.now }
+    ensures text { Puts (text_of_verdicts L.text proofs sheet.now epoch verdicts.now)
         (K.holds sink.old) (K.holds sink.new) result }
     ensures counts { CountsPut (K.faults sink.old) (K.faults sink.new) result }
 {
@@ -40,15 +39,15 @@ pub fn put_verdicts<K: Sink>(
 }
 
 /// Writes the items of verdicts alone. After a stop a prefix of them went out, perhaps none of it.
-pub fn put_items<K: Sink>(
+pub fn put_items<L: LineText, K: Sink>(
     alloc: Global,
     proofs: bool,
     sheet: &Sheet,
-    verdicts: &[Verdict],
+    verdicts: &[Verdict<L>],
     sink: &mut K,
 ) -> Result<(), OutputStop>
-    requires { AreInRange sheet.now verdicts.now }
-    ensures text { Puts (text_of_items proofs sheet.now verdicts.now)
+    requires { AreInRange L.in_range sheet.now verdicts.now }
+    ensures text { Puts (text_of_items L.text proofs sheet.now verdicts.now)
         (K.holds sink.old) (K.holds sink.new) result }
     ensures counts { CountsPut (K.faults sink.old) (K.faults sink.new) result }
 {
@@ -61,15 +60,15 @@ pub fn put_items<K: Sink>(
     Ok(())
 }
 
-fn put_item<K: Sink>(
+fn put_item<L: LineText, K: Sink>(
     alloc: Global,
     proofs: bool,
     sheet: &Sheet,
-    verdict: &Verdict,
+    verdict: &Verdict<L>,
     sink: &mut K,
 ) -> Result<(), OutputStop>
-    requires { IsInRange sheet.now verdict.now }
-    ensures text { Puts (item_text proofs sheet.now verdict.now)
+    requires { IsInRange L.in_range sheet.now verdict.now }
+    ensures text { Puts (item_text L.text proofs sheet.now verdict.now)
         (K.holds sink.old) (K.holds sink.new) result }
     ensures counts { CountsPut (K.faults sink.old) (K.faults sink.new) result }
 {
@@ -100,15 +99,15 @@ pub fn put_verdict<K: Sink>(
 
 // What shows the word: examples and trees on which the budget was spent always, a refutation if
 // proofs are asked for.
-fn put_shown<K: Sink>(
+fn put_shown<L: LineText, K: Sink>(
     alloc: Global,
     proofs: bool,
-    verdict: &Verdict,
+    verdict: &Verdict<L>,
     sink: &mut K,
 ) -> Result<(), OutputStop>
-    requires { All (λ line. IsTrue (is_in_range line)) verdict.now.proof.items }
+    requires { All (λ line. IsTrue (L.in_range line)) verdict.now.proof.items }
     ensures text { Puts
-        (text_of_proof_lines (lines_shown proofs verdict.now.word verdict.now.proof.items))
+        (text_of_lines L.text (lines_shown proofs verdict.now.word verdict.now.proof.items))
         (K.holds sink.old) (K.holds sink.new) result }
     ensures counts { CountsPut (K.faults sink.old) (K.faults sink.new) result }
 {

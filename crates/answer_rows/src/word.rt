@@ -15,9 +15,9 @@ pub enum Word {
     Unsettled,
 }
 
-/// The word for a line and a club, and the lines that show it.
+/// The word for a line and a club, and the lines that show it, plain proof lines or others.
 #[derive(Drop)]
-pub struct Verdict {
+pub struct Verdict<L = ProofLine> {
     /// The number k of first places.
     pub line: u8,
     /// The club, by its number from 0.
@@ -25,5 +25,5 @@ pub struct Verdict {
     pub word: Word,
     /// A refutation after `Clinched` and `Lost`, two examples after `Possible`; after `Unsettled`
     /// an example or a tree for each of the two questions. Trees stand under their heads.
-    pub proof: Vec<ProofLine>,
+    pub proof: Vec<L>,
 }

@@ -13,6 +13,7 @@
 mod forms;
 mod laws;
 mod line;
+mod line_text;
 pub mod places;
 mod plain_form;
 mod plain_node;
@@ -29,6 +30,7 @@ mod values;
 pub use forms::test_below;
 pub use laws::lines_are_in_range;
 pub use line::write_line;
+pub use line_text::LineText;
 pub use plain_node::node_in_line;
 pub use proof_line::{ClubList, ProofLine, marked_line};
 pub use range::{has_form, is_test_below};

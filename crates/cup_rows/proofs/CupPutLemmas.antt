@@ -1,8 +1,7 @@
 -- Lines of cups go out row by row, and with the row of its verdict they are the item of a club.
-use Rattle.std.proofs.Common.{◌≡◌, ℕ, suc, ◌+◌, ◌<◌, Bool, List, ◌++◌, length, drop, get_or, Option}
-use Rattle.std.proofs.Common.{Result, Ok, Err, refl, sym, ap, ◌∙◌, subst, inr, add-one}
+use Rattle.std.proofs.Common.{◌≡◌, ℕ, Bool, List, ◌++◌, Option, Result, Ok, Err, refl, ap, ◌∙◌}
+use Rattle.std.proofs.Common.{subst, inr}
 use Rattle.std.specs.Io.KnownBytes.{append_known}
-use Rattle.std.proofs.Math.Seq.{drop-cons}
 use Rattle.port_core.specs.Ports.{AppendsPrefix}
 use Rattle.league_core.specs.game.Results.{Results}
 use Rattle.answer_rows.specs.declared.output.OutputStop.{OutputStop}
@@ -14,16 +13,7 @@ use Rattle.answer_rows.proofs.OutputLemmas.{front-more, puts-behind}
 use Rattle.cup_sheet.specs.declared.cup.Cup.{Cup}
 use Rattle.cup_text.specs.declared.cup_line.CupLine.{CupLine}
 use Rattle.cup_text.specs.CupItems.{cup_club_name}
-use Rattle.cup_answers.specs.CupTexts.{ShowsInCup, IsCupItemText, cup_line_row, text_of_cup_lines}
-
--- the next of the lines that are left
-pub cup_lines-next : (lines : List CupLine) (i : ℕ) (line : CupLine) → i < length lines
-    → line ≡ get_or lines i line → text_of_cup_lines (drop i lines)
-    ≡ cup_line_row line ++ text_of_cup_lines (drop (i + 1) lines)
-cup_lines-next lines i line inside is =
-    ap text_of_cup_lines (drop-cons lines i line inside)
-    ∙ ap (λ l. cup_line_row l ++ text_of_cup_lines (drop (suc i) lines)) (sym is)
-    ∙ ap (λ n. cup_line_row line ++ text_of_cup_lines (drop n lines)) (sym (add-one i))
+use Rattle.cup_answers.specs.CupTexts.{ShowsInCup, IsCupItemText, text_of_cup_lines}
 
 -- the row of a verdict, and what went out after it
 pub rows_put : {A : Type 0} (cup : Cup) (club : ℕ) (word given : Word) (name : List ℕ)

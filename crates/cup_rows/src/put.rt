@@ -1,21 +1,21 @@
 //! The item of a club on its way to the sink.
 
-ghost use Rattle.std.specs.Prelude.{◌≡◌, ◌<◌, ◌++◌, All, IfOk, IsTrue};
+ghost use Rattle.std.specs.Prelude.{◌≡◌, ◌<◌, ◌++◌, All, IsTrue};
 ghost use Rattle.answer_rows.specs.Rows.{verdict_row};
 ghost use Rattle.answer_rows.specs.inside.Outputs.{CountsPut, Puts, PutsSomeText};
 ghost use Rattle.cup_sheet.specs.Cups.{IsCup, AreSeasonsOf, clubs_together};
 ghost use Rattle.cup_text.specs.CupRanges.{is_cup_line};
 ghost use Rattle.cup_text.specs.CupItems.{cup_club_name};
-ghost use Rattle.cup_answers.specs.CupTexts.{IsCupItemText, cup_line_row, text_of_cup_lines};
+ghost use Rattle.cup_answers.specs.CupTexts.{IsCupItemText, text_of_cup_lines};
 ghost use Rattle.cup_rows.specs.inside.FoundClubs.{IsFoundClub};
 ghost use Rattle.cup_rows.specs.inside.VerdictLines.{word_of_finding};
 
 use crate::found::{FoundClub, finding_lines, word_of_finding};
-use answer_rows::{OutputStop, club_name, put_part, put_verdict};
+use answer_rows::{OutputStop, club_name, put_lines, put_verdict};
 use cup_groups::seat_of;
 use cup_sheet::Cup;
-use cup_text::{CupLine, write_cup_line};
-use league_core::{OutOfMemory, Season};
+use cup_text::CupLine;
+use league_core::Season;
 use port_core::Sink;
 use std::alloc::Global;
 
@@ -65,7 +65,7 @@ fn put_rows<K: Sink>(
         word_of_finding(&found.finding),
         sink,
     ) {
-        Ok(()) => put_cup_lines(alloc, lines, sink),
+        Ok(()) => put_lines(alloc, lines, sink),
         Err(stop) => Err(stop),
     }
 }
@@ -78,38 +78,4 @@ fn name_in_cup(cup: &Cup, club: u8) -> &str
 {
     let seat = seat_of(cup, club).unwrap();
     club_name(&cup.groups.as_slice()[seat.group as usize], seat.own)
-}
-
-fn put_cup_lines<K: Sink>(alloc: Global, lines: &[CupLine], sink: &mut K) -> Result<(), OutputStop>
-    requires { All (λ line. IsTrue (is_cup_line line)) lines.now }
-    ensures text { Puts (text_of_cup_lines lines.now) (K.holds sink.old) (K.holds sink.new) result }
-    ensures counts { CountsPut (K.faults sink.old) (K.faults sink.new) result }
-{
-    for line in lines {
-        match put_cup_line(alloc, line, sink) {
-            Ok(()) => {}
-            Err(stop) => return Err(stop),
-        }
-    }
-    Ok(())
-}
-
-fn put_cup_line<K: Sink>(alloc: Global, line: &CupLine, sink: &mut K) -> Result<(), OutputStop>
-    requires { IsTrue (is_cup_line line.now) }
-    ensures text { Puts (cup_line_row line.now) (K.holds sink.old) (K.holds sink.new) result }
-    ensures counts { CountsPut (K.faults sink.old) (K.faults sink.new) result }
-{
-    match cup_line_row(alloc, line) {
-        Ok(row) => put_part(sink, row.as_slice()),
-        Err(_) => Err(OutputStop::OutOfMemory),
-    }
-}
-
-fn cup_line_row(alloc: Global, line: &CupLine) -> Result<Vec<u8>, OutOfMemory>
-    requires { IsTrue (is_cup_line line.now) }
-    ensures { IfOk result (λ row. row.items ≡ cup_line_row line.now) }
-{
-    let mut row = write_cup_line(alloc, line)?;
-    row.push(b'\n')?;
-    Ok(row)
 }

@@ -11,6 +11,7 @@ ghost use Rattle.cup_text.specs.CupValues.{cup_line_value};
 
 use crate::cup_line::CupLine;
 use crate::value::line_value;
+use cert_text::LineText;
 use league_core::OutOfMemory;
 use std::alloc::Global;
 
@@ -25,6 +26,16 @@ pub fn write_cup_line(alloc: Global, line: &CupLine) -> Result<Vec<u8>, OutOfMem
 {
     let text = json_text(alloc, line)?;
     Ok(text)
+}
+
+impl LineText for CupLine {
+    ghost in_range = { is_cup_line };
+
+    ghost text = { text_of_cup_line };
+
+    fn write(&self, alloc: Global) -> Result<Vec<u8>, OutOfMemory> {
+        write_cup_line(alloc, self)
+    }
 }
 
 // The text of a line as a JSON value.

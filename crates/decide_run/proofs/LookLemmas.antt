@@ -23,7 +23,7 @@ use Rattle.depth_search.specs.inside.Searches.{FitHalves}
 use Rattle.branch_rules.specs.inside.Choices.{IsDueSplit}
 use Rattle.branch_rules.specs.inside.Found.{IsProposedInVain}
 use Rattle.wide_lines.specs.declared.wide_reason.WideReason.{WideReason}
-use Rattle.decided_rows.specs.FairTrees.{IsWideFairSplit}
+use Rattle.decide_run.specs.FairTrees.{IsWideFairSplit}
 use Rattle.decide_run.specs.inside.WideLooks.{IsLookIn}
 use Rattle.decide_run.specs.inside.WideTasks.{AskedWide, MayLookWide, Splits}
 

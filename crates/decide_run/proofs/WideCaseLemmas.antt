@@ -1,7 +1,7 @@
 -- Trees of cases with wide reasons as wide trees. What does not depend on which reason a leaf has
 -- is the same as with a plain reason in the place of a near one.
-use Rattle.std.proofs.Common.{◌≡◌, ℕ, zero, suc, ◌+◌, Bool, true, false, ◌&&◌, ◌||◌, ◌==◌, List, []}
-use Rattle.std.proofs.Common.{◌∷◌, ◌++◌, length, map, replicate, refl, sym, ap, ap₂, ◌∙◌, subst}
+use Rattle.std.proofs.Common.{◌≡◌, ℕ, zero, suc, ◌+◌, true, false, ◌&&◌, ◌||◌, ◌==◌, List, []}
+use Rattle.std.proofs.Common.{◌∷◌, ◌++◌, map, replicate, refl, sym, ap, ap₂, ◌∙◌, subst}
 use Rattle.std.specs.List.{list_all}
 use Rattle.std.proofs.lemmas.Bool.{and_from, eq-eqb}
 use Rattle.std.proofs.lemmas.List.{map-append, length-map}
@@ -10,7 +10,6 @@ use Rattle.league_core.specs.declared.question.Question.{Question}
 use Rattle.league_core.specs.declared.zone.Literal.{Literal}
 use Rattle.league_core.specs.declared.zone.Reason.{Reason}
 use Rattle.league_core.specs.declared.zone.Reason.TheVariants.{Count}
-use Rattle.league_core.specs.declared.zone.Test.{Test}
 use Rattle.league_core.specs.game.Results.{Results, are_results}
 use Rattle.league_core.specs.game.Seasons.{IsLeague}
 use Rattle.league_core.specs.search.Splits.{IsProperNode}
@@ -25,13 +24,12 @@ use Rattle.depth_search.specs.inside.Cases.{HoldsBelow, is_made}
 use Rattle.depth_search.specs.inside.Searches.{IsSpentAfter}
 use Rattle.depth_search.specs.inside.ZoneTrees as zones
 use Rattle.depth_search.proofs.ZoneTreeLemmas.{cases_spent, is_refuted-cases}
-use Rattle.wide_lines.specs.declared.wide_node.WideNode.{WideNode}
 use Rattle.wide_lines.specs.declared.wide_node.WideNode.TheVariants as wide_node
 use Rattle.wide_lines.specs.declared.wide_reason.WideReason.{WideReason}
 use Rattle.wide_lines.specs.declared.wide_reason.WideReason.TheVariants.{Plain, Near}
 use Rattle.wide_lines.specs.WideTrees as wide
 use Rattle.wide_lines.specs.WideTreeLines.{are_wide_tests_for}
-use Rattle.decided_rows.specs.FairTrees.{IsUnitOrOpen, IsWideFairSplit}
+use Rattle.decide_run.specs.FairTrees.{IsUnitOrOpen, IsWideFairSplit}
 use Rattle.decide_run.specs.inside.WideLooks.{IsReasonIn}
 use Rattle.decide_run.specs.inside.WideTasks.{new_wide_tree, new_wide_node}
 

@@ -12,15 +12,12 @@ use Rattle.league_core.specs.game.Results.{Results}
 use Rattle.league_core.specs.game.Questions.{full_question}
 use Rattle.league_core.specs.game.Verdicts.{HasNoExample}
 use Rattle.cert_text.specs.declared.proof_line.ProofLine.{ProofLine}
-use Rattle.cert_text.specs.Ranges.{is_in_range}
 use Rattle.depth_search.specs.declared.kind.CaseNode.{CaseNode}
-use Rattle.depth_search.specs.inside.Cases.{Cases, case_nodes}
 use Rattle.wide_lines.specs.declared.wide_line.WideLine.{WideLine}
 use Rattle.wide_lines.specs.declared.wide_line.WideLine.TheVariants.{Plain}
 use Rattle.wide_lines.specs.declared.wide_reason.WideReason.{WideReason}
 use Rattle.wide_lines.specs.WideTexts.{is_wide_in_range}
-use Rattle.wide_lines.specs.WideTrees.{WideTree}
-use Rattle.wide_lines.specs.WideTreeLines.{IsWideRefutation, ShowsWideRefuted, marked_wide_line}
+use Rattle.wide_lines.specs.WideTreeLines.{ShowsWideRefuted, marked_wide_line}
 use Rattle.wide_lines.specs.WideTreeLines.{marked_wide_lines, plain_wide_line, plain_wide_lines}
 use Rattle.wide_lines.specs.WideTreeLines.{with_wide_spent_head, with_wide_tree_head}
 use Rattle.wide_lines.proofs.WideTreeLemmas.{refutation_is_sound}
@@ -28,17 +25,15 @@ use Rattle.wide_lines.proofs.WideRangeLemmas.{refutation_in_range, spent_in_rang
 use Rattle.answer_rows.specs.declared.part.Part.{Part}
 use Rattle.answer_rows.specs.declared.part.PartKind.{PartKind}
 use Rattle.answer_rows.specs.declared.part.PartKind.TheVariants.{Won, Refuted, Spent}
+use Rattle.answer_rows.specs.declared.word.Verdict.{Verdict}
 use Rattle.answer_rows.specs.declared.word.Word.{Word}
-use Rattle.answer_rows.specs.declared.word.Word.TheVariants.{Clinched, Lost, Possible, Unsettled}
+use Rattle.answer_rows.specs.declared.word.Word.TheVariants.{Clinched}
 use Rattle.answer_rows.specs.inside.AnswerParts.{IsAnswerPart, proof_by, word_by}
 use Rattle.answer_rows.specs.inside.RowItems.{AreAbout}
-use Rattle.answer_rows.specs.Items.{answer_rows}
-use Rattle.decided_rows.specs.declared.item.Decided.{Decided}
-use Rattle.decide_run.specs.declared.part.WidePart.{WidePart}
-use Rattle.decided_rows.specs.Decisions.{IsDecidedItem}
-use Rattle.decided_rows.specs.FairTrees.{IsWideSpentFairly}
-use Rattle.decided_rows.specs.inside.DecidedRanges.{AreDecidedInRange, IsDecidedInRange}
-use Rattle.decided_rows.specs.inside.AllDecided.{AreAllDecided, IsShownDecided, decided_row}
+use Rattle.answer_rows.specs.Items.{answer_row, answer_rows}
+use Rattle.answer_rows.specs.inside.ItemRanges.{AreInRange, IsInRange}
+use Rattle.decide_run.specs.Decisions.{IsDecidedItem}
+use Rattle.decide_run.specs.inside.AllDecided.{AreAllDecided, IsShownDecided}
 use Rattle.decide_run.specs.inside.WideParts.{IsKindShown}
 use Rattle.decide_run.specs.inside.WideParts.{IsRightDecided, IsWidePart}
 use Rattle.decide_run.specs.inside.WideTasks.{IsRefutedBy, IsSpentOn, new_wide_node, new_wide_tree}
@@ -48,7 +43,7 @@ use Rattle.decide_run.proofs.WideCaseLemmas.{preorder-cases}
 -- ---- parts
 
 -- an example
-pub won_wide : (sheet : Sheet) (season : Results) (question : Question) (part : Part)
+pub won_wide : (sheet : Sheet) (season : Results) (question : Question) (part : Part ProofLine)
     (lines : Vec WideLine Global) → IsAnswerPart sheet season question part → part.kind ≡ Won
     → lines.items ≡ map (λ line. Plain line) part.lines.items
     → IsWidePart sheet season question (record { kind = Won; lines = lines })
@@ -131,7 +126,7 @@ item_by sheet season line club Spent Spent first second club_in one two =
     (true, true, refl, (first, second, refl, one, two))
 
 -- what is decided by both parts
-pub right_by : (sheet : Sheet) (season : Results) (line club : ℕ) (inside outside : WidePart)
+pub right_by : (sheet : Sheet) (season : Results) (line club : ℕ) (inside outside : Part WideLine)
     (lines : Vec WideLine Global) (word : Word)
     → club < length sheet.clubs
     → IsWidePart sheet season (full_question club line Inside) inside
@@ -154,7 +149,7 @@ right_by sheet season line club inside outside lines word club_in one two word_i
     }
 
 -- what is decided if the question of `Outside` is refuted
-pub clinched_by : (sheet : Sheet) (season : Results) (line club : ℕ) (outside : WidePart)
+pub clinched_by : (sheet : Sheet) (season : Results) (line club : ℕ) (outside : Part WideLine)
     → club < length sheet.clubs
     → IsWidePart sheet season (full_question club line Outside) outside
     → outside.kind ≡ Refuted
@@ -176,15 +171,16 @@ clinched_by sheet season line club outside club_in two known =
     }
 
 -- all rows are there
-pub right_decided : (sheet : Sheet) (season : Results) (all : List Decided)
-    → AreAbout decided_row (IsRightDecided sheet season) (answer_rows sheet) all
-    → AreAllDecided sheet season all × AreDecidedInRange sheet all
+pub right_decided : (sheet : Sheet) (season : Results) (all : List (Verdict WideLine))
+    → AreAbout answer_row (IsRightDecided sheet season) (answer_rows sheet) all
+    → AreAllDecided sheet season all × AreInRange is_wide_in_range sheet all
 right_decided sheet season all right = (
   record {
     rows = right.about;
     each = All-weaker (IsRightDecided sheet season) (IsShownDecided sheet season)
         (λ found is. is.shown) all right.each;
   },
-  All-weaker (IsRightDecided sheet season) (IsDecidedInRange sheet) (λ found is. is.in_range) all
+  All-weaker (IsRightDecided sheet season) (IsInRange is_wide_in_range sheet)
+      (λ found is. is.in_range) all
       right.each,
 )

@@ -4,16 +4,16 @@ ghost use Rattle.std.specs.Prelude.{◌≡◌, ◌<◌, IfOk, IsTrue, OnOk, leng
 ghost use Rattle.league_core.specs.game.Results.{are_results};
 ghost use Rattle.league_core.specs.game.Seasons.{IsLeague};
 ghost use Rattle.league_core.specs.game.Sheets.{is_line};
+ghost use Rattle.wide_lines.specs.WideTexts.{is_wide_in_range};
+ghost use Rattle.answer_rows.specs.Items.{answer_row};
+ghost use Rattle.answer_rows.specs.inside.ItemRanges.{AreInRange};
 ghost use Rattle.answer_rows.specs.inside.RowItems.{AddsAbout};
-ghost use Rattle.answer_rows.specs.inside.AnswerParts.{proof_by};
-ghost use Rattle.decided_rows.specs.inside.DecidedRanges.{AreDecidedInRange};
-ghost use Rattle.decided_rows.specs.inside.AllDecided.{AreAllDecided, decided_row};
+ghost use Rattle.decide_run.specs.inside.AllDecided.{AreAllDecided};
 ghost use Rattle.decide_run.specs.inside.WideParts.{IsRightDecided};
 
-use crate::part::{WidePart, part_of};
+use crate::part::part_of;
 use crate::solver::WideSolver;
-use answer_rows::{PartKind, Word, append, full_question, word_of};
-use decided_rows::Decided;
+use answer_rows::{PartKind, Verdict, Word, full_question, joined, word_of};
 use league_core::{Claim, OutOfMemory, Season, Sheet};
 use score_box::Played;
 use std::alloc::Global;
@@ -21,10 +21,14 @@ use wide_lines::WideLine;
 
 /// What is decided of each line and club: line by line in the order of the sheet, and for each line
 /// club by club. The budget of the sheet is there for each question.
-pub fn decide(alloc: Global, sheet: &Sheet, season: &Season) -> Result<Vec<Decided>, OutOfMemory>
+pub fn decide(
+    alloc: Global,
+    sheet: &Sheet,
+    season: &Season,
+) -> Result<Vec<Verdict<WideLine>>, OutOfMemory>
     requires { IsLeague sheet.now season.now }
     ensures answer { IfOk result (λ found. AreAllDecided sheet.now season.now found.items) }
-    ensures in_range { IfOk result (λ found. AreDecidedInRange sheet.now found.items) }
+    ensures in_range { IfOk result (λ found. AreInRange is_wide_in_range sheet.now found.items) }
 {
     let _scores = season.scores();
     let played = Played::of(alloc, sheet, season)?;
@@ -32,11 +36,12 @@ pub fn decide(alloc: Global, sheet: &Sheet, season: &Season) -> Result<Vec<Decid
 }
 
 // The same, with the tables of the season.
-fn decide_by(alloc: Global, played: &Played) -> Result<Vec<Decided>, OutOfMemory>
+fn decide_by(alloc: Global, played: &Played) -> Result<Vec<Verdict<WideLine>>, OutOfMemory>
     requires { IsTrue (are_results played.now.season) }
     ensures answer { IfOk result (λ found.
         AreAllDecided played.now.sheet played.now.season found.items) }
-    ensures in_range { IfOk result (λ found. AreDecidedInRange played.now.sheet found.items) }
+    ensures in_range { IfOk result
+        (λ found. AreInRange is_wide_in_range played.now.sheet found.items) }
 {
     let mut solver = WideSolver::new(alloc, played)?;
     decide_lines(alloc, played, &mut solver)
@@ -47,13 +52,14 @@ fn decide_lines(
     alloc: Global,
     played: &Played,
     solver: &mut WideSolver,
-) -> Result<Vec<Decided>, OutOfMemory>
+) -> Result<Vec<Verdict<WideLine>>, OutOfMemory>
     requires sheet { solver.old.sheet ≡ played.now.sheet }
     requires season { solver.old.season ≡ played.now.season }
     requires results { IsTrue (are_results played.now.season) }
     ensures answer { IfOk result (λ found.
         AreAllDecided played.now.sheet played.now.season found.items) }
-    ensures in_range { IfOk result (λ found. AreDecidedInRange played.now.sheet found.items) }
+    ensures in_range { IfOk result
+        (λ found. AreInRange is_wide_in_range played.now.sheet found.items) }
 {
     let mut found = Vec::new(alloc);
     for line in played.sheet().lines.as_slice() {
@@ -68,13 +74,13 @@ fn push_line(
     played: &Played,
     solver: &mut WideSolver,
     line: u8,
-    found: &mut Vec<Decided>,
+    found: &mut Vec<Verdict<WideLine>>,
 ) -> Result<(), OutOfMemory>
     requires sheet { solver.old.sheet ≡ played.now.sheet }
     requires season { solver.old.season ≡ played.now.season }
     requires results { IsTrue (are_results played.now.season) }
     requires line { IsTrue (is_line (length played.now.sheet.clubs) line) }
-    ensures adds { OnOk result (AddsAbout decided_row
+    ensures adds { OnOk result (AddsAbout answer_row
         (IsRightDecided played.now.sheet played.now.season) line (length played.now.sheet.clubs)
         found.old.items found.new.items) }
     ensures same_sheet { solver.new.sheet ≡ solver.old.sheet }
@@ -94,13 +100,13 @@ fn decide_club(
     solver: &mut WideSolver,
     line: u8,
     club: u8,
-) -> Result<Decided, OutOfMemory>
+) -> Result<Verdict<WideLine>, OutOfMemory>
     requires sheet { solver.old.sheet ≡ played.now.sheet }
     requires season { solver.old.season ≡ played.now.season }
     requires results { IsTrue (are_results played.now.season) }
     requires line { IsTrue (is_line (length played.now.sheet.clubs) line) }
     requires club { club < length played.now.sheet.clubs }
-    ensures about { IfOk result (λ found. decided_row found
+    ensures about { IfOk result (λ found. answer_row found
         ≡ record { line = line; club = club }) }
     ensures right { IfOk result (IsRightDecided played.now.sheet played.now.season) }
     ensures same_sheet { solver.new.sheet ≡ solver.old.sheet }
@@ -110,7 +116,7 @@ fn decide_club(
     let outside = part_of(alloc, played, solver, &other)?;
     if let PartKind::Refuted = outside.kind {
         let word = Word::Clinched;
-        return Ok(Decided {
+        return Ok(Verdict {
             line,
             club,
             word,
@@ -121,22 +127,10 @@ fn decide_club(
     let inside = part_of(alloc, played, solver, &question)?;
     let word = word_of(inside.kind, outside.kind);
     let proof = joined(word, inside, outside)?;
-    Ok(Decided {
+    Ok(Verdict {
         line,
         club,
         word,
         proof,
     })
-}
-
-// The lines after the word, out of those of the two parts.
-fn joined(word: Word, inside: WidePart, outside: WidePart) -> Result<Vec<WideLine>, OutOfMemory>
-    ensures { IfOk result (λ lines. lines.items
-        ≡ proof_by word inside.lines.items outside.lines.items) }
-{
-    match word {
-        Word::Clinched => Ok(outside.lines),
-        Word::Lost => Ok(inside.lines),
-        Word::Possible | Word::Unsettled => append(inside.lines, outside.lines),
-    }
 }

@@ -1,7 +1,8 @@
 //! The verdicts of a season by a search whose leaves may have near reasons.
 //!
-//! Read decided_rows' `specs/Decisions.antt` first: what an answer says of a line and a club, and
-//! what shows it; then `specs/inside/WideLooks.antt` and `specs/inside/WideTasks.antt` here.
+//! Read wide_lines' `specs/WideTreeLines.antt` first, then `specs/FairTrees.antt` and
+//! `specs/Decisions.antt` here: what an answer says of a line and a club, and what shows it; then
+//! `specs/inside/WideLooks.antt` and `specs/inside/WideTasks.antt`.
 #![tactic(auto)]
 
 mod answer;

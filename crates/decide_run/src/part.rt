@@ -17,20 +17,13 @@ use std::alloc::Global;
 use tree_arena::Example;
 use wide_lines::{WideLine, WideReason};
 
-/// The lines that stand for a question, and what they show.
-#[derive(Drop)]
-pub(crate) struct WidePart {
-    pub kind: PartKind,
-    pub lines: Vec<WideLine>,
-}
-
 /// The part of a question, by work on it from its root on.
 pub(crate) fn part_of(
     alloc: Global,
     played: &Played,
     solver: &mut WideSolver,
     question: &Question,
-) -> Result<WidePart, OutOfMemory>
+) -> Result<Part<WideLine>, OutOfMemory>
     requires sheet { solver.old.sheet ≡ played.now.sheet }
     requires season { solver.old.season ≡ played.now.season }
     requires results { IsTrue (are_results played.now.season) }
@@ -52,7 +45,7 @@ fn won(
     played: &Played,
     question: &Question,
     example: &Example,
-) -> Result<WidePart, OutOfMemory>
+) -> Result<Part<WideLine>, OutOfMemory>
     requires results { IsTrue (are_results played.now.season) }
     requires example { IsExample played.now.sheet played.now.season question.now
         example.now.finish example.now.lots }
@@ -63,7 +56,7 @@ fn won(
     let part = Part::won(alloc, sheet, season, question, finish, lots)?;
     let lines = widened(alloc, part.lines)?;
     let kind = PartKind::Won;
-    Ok(WidePart { kind, lines })
+    Ok(Part { kind, lines })
 }
 
 // That of the nodes of a refutation.
@@ -72,13 +65,13 @@ fn refuted(
     played: &Played,
     question: &Question,
     nodes: Vec<CaseNode<WideReason>>,
-) -> Result<WidePart, OutOfMemory>
+) -> Result<Part<WideLine>, OutOfMemory>
     requires { IsRefutedBy played.now.sheet played.now.season question.now nodes.items }
     ensures { IfOk result (IsWidePart played.now.sheet played.now.season question.now) }
 {
     let lines = refutation_lines(alloc, question.claim, nodes)?;
     let kind = PartKind::Refuted;
-    Ok(WidePart { kind, lines })
+    Ok(Part { kind, lines })
 }
 
 // That of the nodes of a tree on which the budget was spent.
@@ -87,12 +80,12 @@ fn spent(
     played: &Played,
     question: &Question,
     nodes: Vec<CaseNode<WideReason>>,
-) -> Result<WidePart, OutOfMemory>
+) -> Result<Part<WideLine>, OutOfMemory>
     requires { IsSpentOn played.now.sheet played.now.season question.now played.now.sheet.budget
         nodes.items }
     ensures { IfOk result (IsWidePart played.now.sheet played.now.season question.now) }
 {
     let lines = spent_lines(alloc, question.claim, nodes)?;
     let kind = PartKind::Spent;
-    Ok(WidePart { kind, lines })
+    Ok(Part { kind, lines })
 }

@@ -9,6 +9,8 @@ use Rattle.league_core.specs.declared.sheet.Sheet.{Sheet}
 use Rattle.league_core.specs.game.Results.{Results, are_results}
 use Rattle.league_core.specs.game.Seasons.{IsLeague}
 use Rattle.league_core.specs.search.Trees.{Tree}
+use Rattle.cert_text.specs.declared.proof_line.ProofLine.{ProofLine}
+use Rattle.cert_text.specs.Lines.{text_of_proof_line}
 use Rattle.cert_text.specs.ExampleLines.{text_of_proof_lines}
 use Rattle.answer_rows.specs.declared.word.Verdict.{Verdict}
 use Rattle.answer_rows.specs.Items.{AnswerRow, IsItemShown, IsShownVerdict, answer_row, answer_rows}
@@ -24,7 +26,7 @@ use Rattle.pool_save.specs.inside.SavedPools.{IsUnspentVerdict}
 use Rattle.pool_save.proofs.SpentLineLemmas.{known_item_unspent, shown_lines_unspent}
 
 -- the lines that are written of a verdict show its item
-lines_show : (proofs : Bool) (sheet : Sheet) (season : Results) (verdict : Verdict)
+lines_show : (proofs : Bool) (sheet : Sheet) (season : Results) (verdict : Verdict ProofLine)
     → IsShownVerdict sheet season verdict
     → IsItemShown proofs sheet season verdict.line verdict.club verdict.word
     (lines_shown proofs verdict.word verdict.proof.items)
@@ -33,15 +35,15 @@ lines_show false sheet season verdict shown =
     item_without sheet season verdict.line verdict.club verdict.word verdict.proof.items shown
 
 pub unspent_items_made : (proofs : Bool) (sheet : Sheet) (season : Results)
-    (trees : List (Option Tree)) (verdicts : List Verdict)
+    (trees : List (Option Tree)) (verdicts : List (Verdict ProofLine))
     → All (IsShownVerdict sheet season) verdicts
     → All (IsUnspentVerdict sheet season trees) verdicts
     → IsMadeOf (IsItemText proofs sheet season (Some trees)) (map answer_row verdicts)
-    (text_of_items proofs sheet verdicts)
+    (text_of_items text_of_proof_line proofs sheet verdicts)
 unspent_items_made proofs sheet season trees [] shown unspent = refl
 unspent_items_made proofs sheet season trees (verdict ∷ verdicts) shown unspent = (
-  item_text proofs sheet verdict,
-  text_of_items proofs sheet verdicts,
+  item_text text_of_proof_line proofs sheet verdict,
+  text_of_items text_of_proof_line proofs sheet verdicts,
   refl,
   (
     verdict.word,

@@ -154,7 +154,8 @@ claims_unspent pool place lines Outside inside outside here there is_in is_out i
     (out_known refl))
 
 -- by the word
-word_unspent : (pool : PoolView) (place : ℕ) (verdict : Verdict) (word : Word) (claim : Claim)
+word_unspent : (pool : PoolView) (place : ℕ) (verdict : Verdict ProofLine) (word : Word)
+    (claim : Claim)
     → verdict.word ≡ word → IsShownVerdict pool.sheet pool.season verdict
     → IsOfPool pool place verdict
     → (TellsBoth pool place verdict.proof.items → says_spent claim verdict.proof.items ≡ false)
@@ -211,7 +212,7 @@ module _ (pool : PoolView) (trees : List (Option Tree)) (sound : IsSoundPool poo
       (sym it.found ∙ ap (slice_get pool.seats) (sym same) ∙ mine.found))
       ∙ nearly_done_known place question saved mine own done
 
-  row_unspent : (row : ℕ) (verdict : Verdict)
+  row_unspent : (row : ℕ) (verdict : Verdict ProofLine)
       → AsksBoth pool (2 * row) (answer_row verdict)
       → IsShownVerdict pool.sheet pool.season verdict → IsOfPool pool (2 * row) verdict
       → IsUnspentVerdict pool.sheet pool.season trees verdict
@@ -236,7 +237,7 @@ module _ (pool : PoolView) (trees : List (Option Tree)) (sound : IsSoundPool poo
   -- ---- all of them
 
   -- both questions of the row of a verdict stand where they are looked for
-  row_asks_both : (verdicts : List Verdict) (row : ℕ) (verdict : Verdict)
+  row_asks_both : (verdicts : List (Verdict ProofLine)) (row : ℕ) (verdict : Verdict ProofLine)
       → map answer_row verdicts ≡ answer_rows pool.sheet
       → slice_get verdicts row ≡ Some verdict → AsksBoth pool (2 * row) (answer_row verdict)
   row_asks_both verdicts row verdict are found =
@@ -249,7 +250,8 @@ module _ (pool : PoolView) (trees : List (Option Tree)) (sound : IsSoundPool poo
       (asks_both pool row about asked
       (slice_get_within (answer_rows pool.sheet) row about there))
 
-  all_unspent : (verdicts : List Verdict) → AreVerdictsOf pool.sheet pool.season verdicts
+  all_unspent : (verdicts : List (Verdict ProofLine))
+      → AreVerdictsOf pool.sheet pool.season verdicts
       → AreOfPool pool verdicts → All (IsUnspentVerdict pool.sheet pool.season trees) verdicts
   all_unspent verdicts are of row d within =
       let verdict = get_or verdicts row d in
@@ -258,7 +260,8 @@ module _ (pool : PoolView) (trees : List (Option Tree)) (sound : IsSoundPool poo
       (All-at (IsShownVerdict pool.sheet pool.season) verdicts row verdict are.each found)
       (of row verdict found)
 
-pub verdicts_unspent : (pool : PoolView) (trees : List (Option Tree)) (verdicts : List Verdict)
+pub verdicts_unspent : (pool : PoolView) (trees : List (Option Tree))
+    (verdicts : List (Verdict ProofLine))
     → IsSoundPool pool → pool.questions ≡ questions_of pool.sheet → out_count pool.loans ≡ 0
     → AreSettled pool → AreNearlySaved pool trees
     → AreVerdictsOf pool.sheet pool.season verdicts → AreOfPool pool verdicts

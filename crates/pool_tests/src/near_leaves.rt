@@ -6,8 +6,8 @@
 
 ghost use Rattle.league_core.specs.game.Seasons.{IsLeague};
 
+use answer_rows::put_verdicts;
 use decide_run::decide;
-use decided_rows::put_decided;
 use league_core::{Season, Sheet};
 use port_core::MemSink;
 use sample_leagues::sample_of;
@@ -45,7 +45,7 @@ fn is_answer(
 {
     let all = decide(alloc, sheet, season)?;
     let mut sink = MemSink::new(alloc, 4096, 4096, Vec::new(alloc))?;
-    put_decided(alloc, proofs, sheet, 4, all.as_slice(), &mut sink).map_err(|_| "stopped")?;
+    put_verdicts(alloc, proofs, sheet, 4, all.as_slice(), &mut sink).map_err(|_| "stopped")?;
     Ok(sink.bytes() == wanted)
 }
 

@@ -19,6 +19,7 @@ use Rattle.line_tokens.specs.RowFields.{text_of_word}
 use Rattle.cert_check.specs.inside.Answers.{ShownItem, ShowsWord, AreShown, item_tokens, row_due}
 use Rattle.cert_check.specs.inside.Answers.{unsettled_items}
 use Rattle.cert_check.specs.inside.Calls.{unsettled_in}
+use Rattle.wide_lines.specs.WideTexts.{text_of_wide_line}
 use Rattle.report_lines.specs.inside.WrittenReports.{written}
 use Rattle.report_lines.proofs.KeptLemmas.{text-kept}
 use Rattle.report_lines.proofs.KeptWideLemmas.{kept_wide_line}
@@ -27,8 +28,8 @@ use Rattle.answer_rows.specs.declared.word.Word.{Word}
 use Rattle.answer_rows.specs.declared.word.Word.TheVariants.{Clinched, Lost, Possible, Unsettled}
 use Rattle.answer_rows.specs.Items.{AnswerRow, answer_rows, answer_rows_of}
 use Rattle.answer_rows.specs.Parts.{IsMadeOf, club_name}
-use Rattle.answer_rows.specs.Rows.{verdict_row, word_text}
-use Rattle.decided_rows.specs.DecidedTexts.{text_of_wide_lines, wide_line_row}
+use Rattle.answer_rows.specs.Rows.{line_row, verdict_row, word_text}
+use Rattle.decide_run.specs.DecidedTexts.{text_of_wide_lines}
 use Rattle.report_laws.specs.inside.AcceptedAnswers.{row_word, unsettled_one}
 use Rattle.report_laws.specs.inside.AcceptedTexts.{unsettled_made}
 use Rattle.report_laws.proofs.BriefLemmas.{word-brief}
@@ -46,7 +47,7 @@ words_same Unsettled = refl
 
 -- the bytes of a line as a type holds it are its row
 line-bytes : (shown : WideLine)
-    → written (token_of_wide (kept_wide_line shown)) ≡ wide_line_row shown
+    → written (token_of_wide (kept_wide_line shown)) ≡ line_row text_of_wide_line shown
 line-bytes (Plain shown) = ap (λ (text : List ℕ). text ++ 10 ∷ []) (text-kept shown)
 line-bytes (Near rival) = refl
 line-bytes (NewNear rival) = refl

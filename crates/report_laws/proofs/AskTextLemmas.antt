@@ -22,7 +22,7 @@ use Rattle.answer_rows.specs.Items.{AnswerRow, answer_rows}
 use Rattle.answer_rows.specs.Parts.{club_name}
 use Rattle.answer_rows.specs.Rows.{ask_row, verdict_row}
 use Rattle.pool_save.specs.SavedAnswers.{IsItemText}
-use Rattle.decided_rows.specs.DecidedTexts.{IsDecidedItemText, text_of_wide_lines}
+use Rattle.decide_run.specs.DecidedTexts.{IsDecidedItemText, text_of_wide_lines}
 use Rattle.session_turns.specs.Answers.{IsAnswerTo}
 use Rattle.session_turns.specs.Plays.{Played}
 use Rattle.report_laws.specs.inside.AcceptedTexts.{mode_of_kind, unsettled_answered}

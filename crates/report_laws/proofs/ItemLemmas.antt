@@ -15,7 +15,7 @@ use Rattle.cert_check.specs.Machine.{basis_of, ending_of, part_of_ask, rows_of, 
 use Rattle.cert_check.specs.inside.Answers.{AreShown, ShowsWord, ShownItem, row_due}
 use Rattle.cert_check.proofs.AnswerLemmas.{answer_accepted}
 use Rattle.answer_rows.specs.Items.{AnswerRow, IsShownVerdict, answer_row, answer_rows_of}
-use Rattle.decided_rows.specs.inside.AllDecided.{IsShownDecided, decided_row}
+use Rattle.decide_run.specs.inside.AllDecided.{IsShownDecided}
 use Rattle.report_laws.specs.inside.AcceptedAnswers.{Findings, AreFindingsOf, answer_written}
 use Rattle.report_laws.specs.inside.AcceptedAnswers.{item_of_decided, item_of_verdict}
 use Rattle.report_laws.specs.inside.AcceptedAnswers.{items_of_findings, unsettled_count}
@@ -91,7 +91,7 @@ findings_due Plain sheet season verdicts are =
     dues_of_items item_of_verdict answer_row (λ it. refl) verdicts ∙ ap (map due_of_row) are.rows
     ∙ dues_on_lines (length sheet.clubs) sheet.lines
 findings_due Wide sheet season all are =
-    dues_of_items item_of_decided decided_row (λ it. refl) all ∙ ap (map due_of_row) are.rows
+    dues_of_items item_of_decided answer_row (λ it. refl) all ∙ ap (map due_of_row) are.rows
     ∙ dues_on_lines (length sheet.clubs) sheet.lines
 
 -- an answer is accepted

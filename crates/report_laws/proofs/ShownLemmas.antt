@@ -29,7 +29,7 @@ use Rattle.cert_check.specs.inside.Answers.{ShowsRefutedHeaded, may_have_leaves}
 use Rattle.answer_rows.specs.declared.word.Word.{Word}
 use Rattle.answer_rows.specs.declared.word.Word.TheVariants.{Clinched, Lost, Possible, Unsettled}
 use Rattle.answer_rows.specs.Items.{IsItemShown, RefutesIfAsked, ShowsPart}
-use Rattle.decided_rows.specs.Decisions.{IsDecidedItem, RefutesWideIfAsked, ShowsWidePart}
+use Rattle.decide_run.specs.Decisions.{IsDecidedItem, RefutesWideIfAsked, ShowsWidePart}
 use Rattle.report_laws.specs.inside.AcceptedAnswers.{row_word}
 
 -- proof lines as wide lines

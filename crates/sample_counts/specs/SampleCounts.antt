@@ -1,6 +1,7 @@
 -- The words of the verdicts of a sample league, counted.
 use Rattle.std.specs.Prelude.{◌≡◌, ℕ, Bool, true, false, List, count_by}
 use Rattle.league_core.specs.game.Seasons.{season_after}
+use Rattle.cert_text.specs.declared.proof_line.ProofLine.{ProofLine}
 use Rattle.answer_rows.specs.declared.word.Word.{Word}
 use Rattle.answer_rows.specs.declared.word.Word.TheVariants.{Clinched, Lost, Possible, Unsettled}
 use Rattle.answer_rows.specs.declared.word.Verdict.{Verdict}
@@ -28,11 +29,11 @@ is_word Unsettled Possible = false
 is_word Unsettled Unsettled = true
 
 -- the verdict has this word
-abbrev pub has_word : Word → Verdict → Bool
+abbrev pub has_word : Word → Verdict ProofLine → Bool
 has_word word verdict = is_word verdict.word word
 
 -- how many verdicts have each word
-abbrev pub counts_of : List Verdict → Counts
+abbrev pub counts_of : List (Verdict ProofLine) → Counts
 counts_of verdicts = record {
   clinched = count_by (has_word Clinched) verdicts;
   lost = count_by (has_word Lost) verdicts;
@@ -43,6 +44,6 @@ counts_of verdicts = record {
 -- the counts are those of an answer to the sheet of the samples and the season of the seed
 abbrev pub IsCountOfSample : ℕ → Counts → Type 0
 IsCountOfSample seed counts =
-    (verdicts : List Verdict)
+    (verdicts : List (Verdict ProofLine))
     × AreVerdictsOf sample_sheet (season_after sample_sheet (sample_events seed)) verdicts
     × (counts ≡ counts_of verdicts)

@@ -20,8 +20,8 @@ use Rattle.answer_rows.specs.declared.word.Word.TheVariants.{Clinched, Lost, Pos
 use Rattle.answer_rows.specs.Items.{AnswerRow, IsItemShown, RefutesIfAsked}
 use Rattle.answer_rows.specs.Parts.{IsMadeOf, club_name}
 use Rattle.answer_rows.specs.Rows.{ask_row, verdict_row}
-use Rattle.decided_rows.specs.Decisions.{IsDecidedItem, RefutesWideIfAsked}
-use Rattle.decided_rows.specs.DecidedTexts.{IsDecidedItemText, IsDecidedText, text_of_wide_lines}
+use Rattle.decide_run.specs.Decisions.{IsDecidedItem, RefutesWideIfAsked}
+use Rattle.decide_run.specs.DecidedTexts.{IsDecidedItemText, IsDecidedText, text_of_wide_lines}
 use Rattle.answer_laws.specs.inside.SeasonAnswers.{AnswerItem, IsKnownItem}
 use Rattle.answer_laws.proofs.AnswerLemmas.{season_answered}
 

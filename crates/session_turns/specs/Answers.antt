@@ -12,7 +12,7 @@ use Rattle.answer_rows.specs.ScoreTexts.{text_of_scores}
 use Rattle.qual_scores.specs.AllScores.{AreScoresOf}
 use Rattle.what_if.specs.WhenTexts.{IsWhenText}
 use Rattle.pool_save.specs.SavedAnswers.{IsItemText}
-use Rattle.decided_rows.specs.DecidedTexts.{IsDecidedText}
+use Rattle.decide_run.specs.DecidedTexts.{IsDecidedText}
 use Rattle.command_words.specs.declared.command.Mode.{Mode}
 use Rattle.command_words.specs.declared.command.Mode.TheVariants.{Verdicts, Table, Scores, WhatIf}
 use Rattle.command_words.specs.declared.command.Mode.TheVariants.{Save, Resume, Decide, Check}

@@ -17,7 +17,6 @@ use answer_rows::{OutputStop, put_scores, put_table, put_verdicts, questions, ta
 use branch_pool::Pool;
 use command_words::Mode;
 use decide_run::decide;
-use decided_rows::put_decided;
 use league_core::{OutOfMemory, Question, Sheet};
 use port_core::Sink;
 use qual_scores::all_scores;
@@ -201,7 +200,7 @@ fn put_decisions<K: Sink>(
     let Ok(all) = decide(alloc, pool.sheet(), pool.season()) else {
         return Err(OutputStop::OutOfMemory);
     };
-    put_decided(
+    put_verdicts(
         alloc,
         proofs,
         pool.sheet(),

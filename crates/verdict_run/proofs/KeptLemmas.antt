@@ -68,7 +68,7 @@ spent_by None false false none not_refuted settled = absurd (false≢true settle
 
 -- the example that is kept comes from what is kept
 pub won_of_seat : (sheet : Sheet) (season : Results) (seat : QuestionState) (example : Example)
-    (part : Part)
+    (part : Part ProofLine)
     → seat.example ≡ Some example
     → part.lines.items
     ≡ example_lines seat.question.claim season example.finish example.lots
@@ -81,7 +81,8 @@ won_of_seat sheet season seat example part is lines = record {
 }
 
 -- so does a refuted tree
-pub refuted_of_seat : (sheet : Sheet) (season : Results) (seat : QuestionState) (part : Part)
+pub refuted_of_seat : (sheet : Sheet) (season : Results) (seat : QuestionState)
+    (part : Part ProofLine)
     → part.kind ≡ Refuted → part.lines.items ≡ lines_of_refuted seat
     → IsOfSeat sheet season seat part
 refuted_of_seat sheet season seat part known lines =
@@ -96,7 +97,8 @@ shows_other sheet season question Refuted lines other shows = absurd (other refl
 shows_other sheet season question Spent lines other shows = (true, shows)
 
 -- and what is known if the budget was spent
-pub spent_of_seat : (sheet : Sheet) (season : Results) (seat : QuestionState) (part : Part)
+pub spent_of_seat : (sheet : Sheet) (season : Results) (seat : QuestionState)
+    (part : Part ProofLine)
     → IsDoneSeat sheet season seat → seat.example ≡ None → is_refuted seat.tree ≡ false
     → IsAnswerPart sheet season seat.question part
     → (is_all_new seat.tree ≡ true → part.lines.items ≡ lines_of_spent seat)
@@ -121,7 +123,7 @@ spent_of_seat sheet season seat part done none not_refuted shown lines = record 
 -- what comes from the seat that stands at a place comes from that place
 pub of_place : (pool : PoolView) (place : ℕ) (seat : QuestionState) (sheet : Sheet)
     (season : Results)
-    (part : Part) → slice_get pool.seats place ≡ Some seat → sheet ≡ pool.sheet
+    (part : Part ProofLine) → slice_get pool.seats place ≡ Some seat → sheet ≡ pool.sheet
     → season ≡ pool.season → IsOfSeat sheet season seat part → IsOfPlace pool place part
 of_place pool place seat sheet season part found same_sheet same_season of_seat other there =
     let P : Sheet → Type 0 = λ s. IsOfSeat s season seat part in
@@ -131,8 +133,9 @@ of_place pool place seat sheet season part found same_sheet same_season of_seat 
     (subst Q same_season (subst P same_sheet of_seat))
 
 -- if nothing is found at a place, no tree is refuted there
-pub none_found : (pool : PoolView) (place : ℕ) (found : Option Part)
-    → ((part : Part) → found ≢ Some part) → IsFoundAt pool place found → (seat : QuestionState)
+pub none_found : (pool : PoolView) (place : ℕ) (found : Option (Part ProofLine))
+    → ((part : Part ProofLine) → found ≢ Some part) → IsFoundAt pool place found
+    → (seat : QuestionState)
     → slice_get pool.seats place ≡ Some seat → is_refuted seat.tree ≡ false
 none_found pool place None none_is at seat there = at seat there
 none_found pool place (Some part) none_is at seat there = absurd (none_is part refl)
@@ -140,7 +143,7 @@ none_found pool place (Some part) none_is at seat there = absurd (none_is part r
 -- ---- the two questions of a row
 
 -- a verdict that refutes the second question, by its own tree
-pub outside_of_pool : (pool : PoolView) (place : ℕ) (verdict : Verdict)
+pub outside_of_pool : (pool : PoolView) (place : ℕ) (verdict : Verdict ProofLine)
     → ((seat : QuestionState) → slice_get pool.seats place ≡ Some seat
     → answer_of pool.sheet seat ≡ answer.Refuted → ⊥)
     → ((seat : QuestionState) → slice_get pool.seats (place + 1) ≡ Some seat
@@ -153,7 +156,8 @@ outside_of_pool pool place verdict not_refuted lines is = record {
 }
 
 -- a verdict that refutes the first question, if the second one's tree is not refuted
-pub inside_of_pool : (pool : PoolView) (place : ℕ) (verdict : Verdict) (inside : Part)
+pub inside_of_pool : (pool : PoolView) (place : ℕ) (verdict : Verdict ProofLine)
+    (inside : Part ProofLine)
     → ((seat : QuestionState) → slice_get pool.seats (place + 1) ≡ Some seat
     → is_refuted seat.tree ≡ false)
     → IsOfPlace pool place inside → verdict.word ≡ word.Lost
@@ -166,7 +170,8 @@ inside_of_pool pool place verdict inside not_refuted one is are = record {
 }
 
 -- a verdict of two parts, of which the second question's tree is not refuted
-pub parts_of_pool : (pool : PoolView) (place : ℕ) (verdict : Verdict) (inside outside : Part)
+pub parts_of_pool : (pool : PoolView) (place : ℕ) (verdict : Verdict ProofLine)
+    (inside outside : Part ProofLine)
     → ((seat : QuestionState) → slice_get pool.seats (place + 1) ≡ Some seat
     → is_refuted seat.tree ≡ false)
     → IsOfPlace pool place inside → IsOfPlace pool (place + 1) outside
@@ -215,13 +220,14 @@ parts_of_pool pool place verdict inside outside not_refuted one two is are = rec
 -- ---- row by row
 
 -- one verdict more
-pub pushed_of_pool : (pool : PoolView) (count : ℕ) (verdicts : List Verdict) (verdict : Verdict)
+pub pushed_of_pool : (pool : PoolView) (count : ℕ) (verdicts : List (Verdict ProofLine))
+    (verdict : Verdict ProofLine)
     → length verdicts ≡ count → AreOfPool pool verdicts → IsOfPool pool (2 * count) verdict
     → AreOfPool pool (verdicts ++ verdict ∷ [])
 pushed_of_pool pool count verdicts verdict many so_far one row found there =
     elim (at_pushed verdicts verdict row found there) as (λ _. IsOfPool pool (2 * row) found) [
       | inl before ↦ so_far row found before
-      | inr end ↦ subst (λ (v : Verdict). IsOfPool pool (2 * row) v) end.1
+      | inr end ↦ subst (λ (v : Verdict ProofLine). IsOfPool pool (2 * row) v) end.1
           (subst (λ (n : ℕ). IsOfPool pool (2 * n) verdict) (sym (end.0 ∙ many)) one)
     ]
 

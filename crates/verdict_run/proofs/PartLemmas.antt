@@ -15,6 +15,7 @@ use Rattle.league_core.specs.game.Results.{Results}
 use Rattle.league_core.specs.game.Questions.{IsQuestionOf}
 use Rattle.league_core.specs.search.Trees.{Tree, open_leaf, lent_leaf, refuted_leaf, branch}
 use Rattle.league_core.specs.search.Trees.{preorder, is_refuted}
+use Rattle.cert_text.specs.declared.proof_line.ProofLine.{ProofLine}
 use Rattle.cert_text.specs.TreeLines.{IsRefutationTree, IsFairSpentTree}
 use Rattle.branch_pool.specs.declared.question_state.QuestionState.{QuestionState}
 use Rattle.branch_pool.specs.inside.States.{PoolView}
@@ -89,7 +90,7 @@ done_at pool place seat sheet season sound settled found same_sheet same_season 
 -- a part of the question at a place
 pub part_at : (pool : PoolView) (place : ℕ) (seat : QuestionState) (sheet : Sheet)
     (season : Results)
-    (part : Part) → IsSoundPool pool → slice_get pool.seats place ≡ Some seat
+    (part : Part ProofLine) → IsSoundPool pool → slice_get pool.seats place ≡ Some seat
     → sheet ≡ pool.sheet → season ≡ pool.season → IsAnswerPart sheet season seat.question part
     → IsPartAt pool place part
 part_at pool place seat sheet season part sound found same_sheet same_season part_of =
@@ -103,7 +104,7 @@ part_at pool place seat sheet season part sound found same_sheet same_season par
 -- a part that refutes it
 pub refuted_there : (pool : PoolView) (place : ℕ) (seat : QuestionState) (sheet : Sheet)
     (season : Results)
-    (part : Part) → IsSoundPool pool → slice_get pool.seats place ≡ Some seat
+    (part : Part ProofLine) → IsSoundPool pool → slice_get pool.seats place ≡ Some seat
     → sheet ≡ pool.sheet → season ≡ pool.season → IsRefutedPart sheet season seat.question part
     → IsRefutedAt pool place part
 refuted_there pool place seat sheet season part sound found same_sheet same_season refuted =
@@ -140,7 +141,8 @@ done_enough sheet season seat done none refuted enough =
     done.settled)
 
 -- what follows from a fact of the part, if there is one
-pub some_weaker : (found : Option Part) (P Q : Part → Type 0) → ((part : Part) → P part → Q part)
+pub some_weaker : (found : Option (Part ProofLine)) (P Q : Part ProofLine → Type 0)
+    → ((part : Part ProofLine) → P part → Q part)
     → IfSome found P → IfSome found Q
 some_weaker None P Q gives fact = tt
 some_weaker (Some part) P Q gives fact = gives part fact

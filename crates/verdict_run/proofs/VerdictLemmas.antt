@@ -179,7 +179,7 @@ known_by Spent Spent one two = λ e. one refl
 in_range_of : (sheet : Sheet) (question : Question) (row : AnswerRow) (word : Word)
     (proof : Vec ProofLine Global) → question ≡ full_question row.club row.line Inside
     → row.club < length sheet.clubs → list_all is_in_range proof.items ≡ true
-    → IsInRange sheet (record {
+    → IsInRange is_in_range sheet (record {
       line = question.line;
       club = question.club;
       word = word;
@@ -193,7 +193,8 @@ in_range_of sheet question row word proof is club_in all =
     }
 
 -- the verdict of a row whose questions have these parts
-pub answered_by : (pool : PoolView) (row : AnswerRow) (question : Question) (inside outside : Part)
+pub answered_by : (pool : PoolView) (row : AnswerRow) (question : Question)
+    (inside outside : Part ProofLine)
     (proof : Vec ProofLine Global) → question ≡ full_question row.club row.line Inside
     → row.club < length pool.sheet.clubs
     → IsAnswerPart pool.sheet pool.season (full_question row.club row.line Inside) inside
@@ -227,7 +228,8 @@ answered_by pool row question inside outside proof is club_in one two few_one fe
     }
 
 -- the verdict of a row whose `Inside` is refuted
-pub answered_lost : (pool : PoolView) (row : AnswerRow) (question : Question) (inside : Part)
+pub answered_lost : (pool : PoolView) (row : AnswerRow) (question : Question)
+    (inside : Part ProofLine)
     → question ≡ full_question row.club row.line Inside → row.club < length pool.sheet.clubs
     → IsAnswerPart pool.sheet pool.season (full_question row.club row.line Inside) inside
     → inside.kind ≡ Refuted
@@ -254,7 +256,8 @@ answered_lost pool row question inside is club_in one known =
     }
 
 -- the verdict of a row whose `Outside` is refuted
-pub answered_clinched : (pool : PoolView) (row : AnswerRow) (question : Question) (outside : Part)
+pub answered_clinched : (pool : PoolView) (row : AnswerRow) (question : Question)
+    (outside : Part ProofLine)
     → question ≡ full_question row.club row.line Inside → row.club < length pool.sheet.clubs
     → IsRefutedPart pool.sheet pool.season (full_question row.club row.line Outside) outside
     → IsAnswered pool row (record {
@@ -309,7 +312,7 @@ row_club pool place row sound asks =
     (slice_get_within pool.questions place question asks.inside))).club
 
 -- if the second question of a row is refuted, the first one is not
-pub not_refuted_too : (pool : PoolView) (place : ℕ) (row : AnswerRow) (outside : Part)
+pub not_refuted_too : (pool : PoolView) (place : ℕ) (row : AnswerRow) (outside : Part ProofLine)
     (seat : QuestionState) → IsSoundPool pool → AsksBoth pool place row
     → IsRefutedPart pool.sheet pool.season (full_question row.club row.line Outside) outside
     → slice_get pool.seats place ≡ Some seat → answer_of pool.sheet seat ≡ answer.Refuted → ⊥
@@ -333,10 +336,11 @@ not_refuted_too pool place row outside seat sound asks two there answered =
 -- ---- row by row
 
 -- the verdicts of the first rows
-pub record AreAnswered (pool : PoolView) (count : ℕ) (verdicts : List Verdict) : Type 0 where
+pub record AreAnswered (pool : PoolView) (count : ℕ) (verdicts : List (Verdict ProofLine)) :
+    Type 0 where
   pub rows : map answer_row verdicts ≡ take count (answer_rows pool.sheet)
   pub each : All (IsShownVerdict pool.sheet pool.season) verdicts
-  pub in_range : AreInRange pool.sheet verdicts
+  pub in_range : AreInRange is_in_range pool.sheet verdicts
   pub enough : AreKnownIfEnough pool.sheet pool.season verdicts
   pub of_pool : AreOfPool pool verdicts
 
@@ -345,14 +349,14 @@ pub none_answered : (pool : PoolView) → AreAnswered pool 0 []
 none_answered pool = record {
   rows = refl;
   each = All-nil (IsShownVerdict pool.sheet pool.season);
-  in_range = All-nil (IsInRange pool.sheet);
-  enough = λ great. All-nil (λ (v : Verdict). v.word ≢ Unsettled);
+  in_range = All-nil (IsInRange is_in_range pool.sheet);
+  enough = λ great. All-nil (λ (v : Verdict ProofLine). v.word ≢ Unsettled);
   of_pool = none_of_pool pool;
 }
 
 -- one more
-pub one_answered : (pool : PoolView) (count : ℕ) (verdicts after : List Verdict)
-    (verdict : Verdict) (d : AnswerRow) → count < length (answer_rows pool.sheet)
+pub one_answered : (pool : PoolView) (count : ℕ) (verdicts after : List (Verdict ProofLine))
+    (verdict : Verdict ProofLine) (d : AnswerRow) → count < length (answer_rows pool.sheet)
     → AreAnswered pool count verdicts
     → IsAnswered pool (get_or (answer_rows pool.sheet) count d) verdict
     → IsOfPool pool (2 * count) verdict
@@ -363,7 +367,7 @@ one_answered pool count verdicts after verdict d inside so_far one of_pool are =
     sym (length-map verdicts answer_row)
     ∙ ap (λ (rs : List AnswerRow). length rs) so_far.rows
     ∙ length-take-le count rows (omega arith) in
-    let P : List Verdict → Type 0 = λ vs. AreAnswered pool (count + 1) vs in
+    let P : List (Verdict ProofLine) → Type 0 = λ vs. AreAnswered pool (count + 1) vs in
     subst P (sym are) (record {
       rows = map-append answer_row verdicts (verdict ∷ [])
           ∙ ap (λ rs. rs ++ answer_row verdict ∷ []) so_far.rows
@@ -373,18 +377,18 @@ one_answered pool count verdicts after verdict d inside so_far one of_pool are =
           (All-cons (IsShownVerdict pool.sheet pool.season) verdict [] one.shown
           (All-nil (IsShownVerdict pool.sheet pool.season)));
       in_range =
-          All-append (IsInRange pool.sheet) verdicts (verdict ∷ []) so_far.in_range
-          (All-cons (IsInRange pool.sheet) verdict [] one.in_range
-          (All-nil (IsInRange pool.sheet)));
+          All-append (IsInRange is_in_range pool.sheet) verdicts (verdict ∷ []) so_far.in_range
+          (All-cons (IsInRange is_in_range pool.sheet) verdict [] one.in_range
+          (All-nil (IsInRange is_in_range pool.sheet)));
       enough = λ great.
-          let K : Verdict → Type 0 = λ v. v.word ≢ Unsettled in
+          let K : Verdict ProofLine → Type 0 = λ v. v.word ≢ Unsettled in
           All-append K verdicts (verdict ∷ []) (so_far.enough great)
           (All-cons K verdict [] (one.enough great) (All-nil K));
       of_pool = pushed_of_pool pool count verdicts verdict many so_far.of_pool of_pool;
     })
 
 -- all rows are there
-pub all_answered : (pool : PoolView) (count : ℕ) (verdicts : List Verdict)
+pub all_answered : (pool : PoolView) (count : ℕ) (verdicts : List (Verdict ProofLine))
     → AreAnswered pool count verdicts → length (answer_rows pool.sheet) ≤ count
     → AreVerdictsOf pool.sheet pool.season verdicts
 all_answered pool count verdicts so_far all = record {

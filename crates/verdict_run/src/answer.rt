@@ -1,6 +1,7 @@
 //! The verdicts of a pool on which the work is done.
 
 ghost use Rattle.std.specs.Prelude.{◌≡◌, ◌+◌, ◌<◌, IfOk, length};
+ghost use Rattle.cert_text.specs.Ranges.{is_in_range};
 ghost use Rattle.answer_rows.specs.declared.word.Verdict.{Verdict};
 ghost use Rattle.answer_rows.specs.AskedQuestions.{questions_of};
 ghost use Rattle.verdict_run.specs.inside.Working.{AreSettled};
@@ -24,7 +25,7 @@ pub fn verdicts(alloc: Global, pool: &Pool) -> Result<Vec<Verdict>, OutOfMemory>
     requires settled { AreSettled pool.now }
     ensures answer { IfOk result (λ found.
         AreVerdictsOf pool.now.sheet pool.now.season found.items) }
-    ensures in_range { IfOk result (λ found. AreInRange pool.now.sheet found.items) }
+    ensures in_range { IfOk result (λ found. AreInRange is_in_range pool.now.sheet found.items) }
     ensures enough { IfOk result (λ found.
         AreKnownIfEnough pool.now.sheet pool.now.season found.items) }
     ensures of_pool { IfOk result (λ found. AreOfPool pool.now found.items) }

@@ -10,6 +10,7 @@ use Rattle.league_core.specs.game.Results.{Results}
 use Rattle.league_core.specs.game.Questions.{full_question}
 use Rattle.league_core.specs.search.Trees.{Tree}
 use Rattle.league_core.proofs.GivenLemmas.{none_at_root, none_anywhere}
+use Rattle.cert_text.specs.Ranges.{is_in_range}
 use Rattle.cert_text.specs.declared.proof_line.ProofLine.{ProofLine}
 use Rattle.cert_text.specs.TreeLines.{IsFairSpentTree}
 use Rattle.answer_rows.specs.declared.word.Word.{Word}
@@ -28,16 +29,17 @@ use Rattle.what_if.specs.inside.GivenParts.{IsRightGiven}
 
 -- all rows are there
 pub right_verdicts : (sheet : Sheet) (season : Results) (zone : List Literal)
-    (verdicts : List Verdict)
+    (verdicts : List (Verdict ProofLine))
     → AreAbout answer_row (IsRightGiven sheet season zone) (answer_rows sheet) verdicts
-    → AreVerdictsGiven sheet season zone verdicts × AreInRange sheet verdicts
+    → AreVerdictsGiven sheet season zone verdicts × AreInRange is_in_range sheet verdicts
 right_verdicts sheet season zone verdicts right = (
   record {
     rows = right.about;
     each = All-weaker (IsRightGiven sheet season zone) (IsShownGiven sheet season zone)
         (λ verdict is. is.shown) verdicts right.each;
   },
-  All-weaker (IsRightGiven sheet season zone) (IsInRange sheet) (λ verdict is. is.in_range)
+  All-weaker (IsRightGiven sheet season zone) (IsInRange is_in_range sheet)
+      (λ verdict is. is.in_range)
       verdicts right.each,
 )
 

@@ -5,6 +5,7 @@ use Rattle.std.proofs.lemmas.List.Elements.{All-head, All-tail}
 use Rattle.league_core.specs.declared.sheet.Sheet.{Sheet}
 use Rattle.league_core.specs.declared.zone.Literal.{Literal}
 use Rattle.league_core.specs.game.Results.{Results}
+use Rattle.cert_text.specs.Lines.{text_of_proof_line}
 use Rattle.cert_text.specs.declared.proof_line.ProofLine.{ProofLine}
 use Rattle.answer_rows.specs.declared.output.OutputStop.{OutputStop}
 use Rattle.answer_rows.specs.declared.word.Word.{Word}
@@ -31,14 +32,15 @@ lines_given sheet season zone line club Possible lines item = item
 lines_given sheet season zone line club Unsettled lines item = item
 
 -- the items of verdicts that are right and shown
-items_given : (sheet : Sheet) (season : Results) (zone : List Literal) (found : List Verdict)
+items_given : (sheet : Sheet) (season : Results) (zone : List Literal)
+    (found : List (Verdict ProofLine))
     → All (IsShownGiven sheet season zone) found
     → IsMadeOf (IsItemTextGiven sheet season zone) (map answer_row found)
-    (text_of_items false sheet found)
+    (text_of_items text_of_proof_line false sheet found)
 items_given sheet season zone [] shown = refl
 items_given sheet season zone (verdict ∷ found) shown = (
-  item_text false sheet verdict,
-  text_of_items false sheet found,
+  item_text text_of_proof_line false sheet verdict,
+  text_of_items text_of_proof_line false sheet found,
   refl,
   (
     verdict.word,
@@ -53,26 +55,30 @@ items_given sheet season zone (verdict ∷ found) shown = (
 
 -- the text of the verdicts given an outcome
 outcome_text_is : (sheet : Sheet) (season : Results) (epoch fixture : ℕ) (outcome : Outcome)
-    (found : List Verdict) → AreVerdictsGiven sheet season (base_of fixture outcome) found
+    (found : List (Verdict ProofLine)) → AreVerdictsGiven sheet season (base_of fixture outcome)
+    found
     → IsOutcomeText sheet season epoch fixture outcome
-    (when_row epoch fixture outcome ++ text_of_items false sheet found)
+    (when_row epoch fixture outcome ++ text_of_items text_of_proof_line false sheet found)
 outcome_text_is sheet season epoch fixture outcome found are =
     let zone = base_of fixture outcome in
     let P : List AnswerRow → Type 0 = λ rows.
-    IsMadeOf (IsItemTextGiven sheet season zone) rows (text_of_items false sheet found) in (
-      text_of_items false sheet found,
+    IsMadeOf (IsItemTextGiven sheet season zone) rows
+    (text_of_items text_of_proof_line false sheet found) in (
+      text_of_items text_of_proof_line false sheet found,
       refl,
       subst P are.rows (items_given sheet season zone found are.each),
     )
 
 -- the text of an outcome did
 pub outcome_put : {A : Type 0} (sheet : Sheet) (season : Results) (epoch fixture : ℕ)
-    (outcome : Outcome) (found : List Verdict) (old now : Option (List ℕ))
+    (outcome : Outcome) (found : List (Verdict ProofLine)) (old now : Option (List ℕ))
     (result : Result A OutputStop)
     → AreVerdictsGiven sheet season (base_of fixture outcome) found
-    → Puts (when_row epoch fixture outcome ++ text_of_items false sheet found) old now result
+    → Puts (when_row epoch fixture outcome ++ text_of_items text_of_proof_line false sheet found)
+    old now result
     → PutsSomeText (IsOutcomeText sheet season epoch fixture outcome) old now result
 outcome_put {A} sheet season epoch fixture outcome found old now result are puts =
     puts_some (IsOutcomeText sheet season epoch fixture outcome)
-    (when_row epoch fixture outcome ++ text_of_items false sheet found) old now result
+    (when_row epoch fixture outcome ++ text_of_items text_of_proof_line false sheet found)
+    old now result
     (outcome_text_is sheet season epoch fixture outcome found are) puts

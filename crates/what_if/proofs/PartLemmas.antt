@@ -40,7 +40,7 @@ use Rattle.what_if.proofs.BaseLemmas.{no_rival_named}
 
 -- an example as a part
 pub won_given : {E : Type 0} (sheet : Sheet) (season : Results) (zone : List Literal)
-    (question : Question) (finish : Results) (lots : List ℕ) (result : Result Part E)
+    (question : Question) (finish : Results) (lots : List ℕ) (result : Result (Part ProofLine) E)
     → IsLeague sheet season → are_results season ≡ true
     → IsExampleIn sheet season question zone finish lots
     → IfOk result (λ part. part.kind ≡ Won)
@@ -57,7 +57,7 @@ won_given {E} sheet season zone question finish lots (Err stop) league results e
 
 -- that the question holds nowhere as a part
 pub refuted_given : (sheet : Sheet) (season : Results) (zone : List Literal) (question : Question)
-    (part : Part) → HoldsNowhereIn sheet season question zone
+    (part : Part ProofLine) → HoldsNowhereIn sheet season question zone
     → part.kind ≡ Refuted → part.lines.items ≡ []
     → IsAnswerPartGiven sheet season zone question part
 refuted_given sheet season zone question part nowhere known are = record {
@@ -67,7 +67,7 @@ refuted_given sheet season zone question part nowhere known are = record {
 
 -- the nodes of a tree on which the budget was spent as a part
 pub spent_given : {E : Type 0} (sheet : Sheet) (season : Results) (zone : List Literal)
-    (question : Question) (nodes : List (CaseNode Reason)) (result : Result Part E)
+    (question : Question) (nodes : List (CaseNode Reason)) (result : Result (Part ProofLine) E)
     → is_base_of sheet zone ≡ true
     → ((cases : Cases Reason) × (case_nodes cases ≡ nodes)
     × IsFairlySpentBelow sheet season question zone sheet.budget (new_tree cases))
@@ -119,7 +119,7 @@ item_by sheet season zone line club Spent Spent first second one two =
 
 -- a verdict of both parts
 pub right_by : (sheet : Sheet) (season : Results) (zone : List Literal) (line club : ℕ)
-    (inside outside : Part) (lines : Vec ProofLine Global) (word : Word)
+    (inside outside : Part ProofLine) (lines : Vec ProofLine Global) (word : Word)
     → club < length sheet.clubs
     → IsAnswerPartGiven sheet season zone (full_question club line Inside) inside
     → IsAnswerPartGiven sheet season zone (full_question club line Outside) outside
@@ -141,7 +141,7 @@ right_by sheet season zone line club inside outside lines word club_in one two w
 
 -- a verdict whose question of `Outside` holds nowhere
 pub clinched_by : (sheet : Sheet) (season : Results) (zone : List Literal) (line club : ℕ)
-    (outside : Part) → club < length sheet.clubs
+    (outside : Part ProofLine) → club < length sheet.clubs
     → IsAnswerPartGiven sheet season zone (full_question club line Outside) outside
     → outside.kind ≡ Refuted
     → IsRightGiven sheet season zone

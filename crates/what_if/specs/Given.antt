@@ -58,12 +58,12 @@ IsItemGiven sheet season zone line club Unsettled lines =
     lines
 
 -- a verdict is right given the zone, and its lines show it
-abbrev pub IsShownGiven : Sheet → Results → List Literal → Verdict → Type 0
+abbrev pub IsShownGiven : Sheet → Results → List Literal → Verdict ProofLine → Type 0
 IsShownGiven sheet season zone verdict =
     IsItemGiven sheet season zone verdict.line verdict.club verdict.word verdict.proof.items
 
 -- one verdict for each row of an answer, each of them right and shown given the zone
 pub record AreVerdictsGiven (sheet : Sheet) (season : Results) (zone : List Literal)
-    (verdicts : List Verdict) : Type 0 where
+    (verdicts : List (Verdict ProofLine)) : Type 0 where
   pub rows : map answer_row verdicts ≡ answer_rows sheet
   pub each : All (IsShownGiven sheet season zone) verdicts

@@ -4,6 +4,7 @@ ghost use Rattle.std.specs.Prelude.{◌≡◌, ◌<◌, IfOk, IsTrue, OnOk, leng
 ghost use Rattle.league_core.specs.game.Seasons.{IsLeague};
 ghost use Rattle.league_core.specs.game.Sheets.{is_line};
 ghost use Rattle.league_core.specs.search.Options.{has_finish};
+ghost use Rattle.cert_text.specs.Ranges.{is_in_range};
 ghost use Rattle.answer_rows.specs.Items.{answer_row};
 ghost use Rattle.answer_rows.specs.inside.ItemRanges.{AreInRange};
 ghost use Rattle.what_if.specs.Bases.{is_base_of};
@@ -33,7 +34,7 @@ pub fn verdicts_given(
     requires has_finish { IsTrue (has_finish sheet.now season.now base.now.literals) }
     ensures answer { IfOk result (λ found.
         AreVerdictsGiven sheet.now season.now base.now.literals found.items) }
-    ensures in_range { IfOk result (λ found. AreInRange sheet.now found.items) }
+    ensures in_range { IfOk result (λ found. AreInRange is_in_range sheet.now found.items) }
 {
     let played = Played::of(alloc, sheet, season)?;
     verdicts_below(alloc, &played, base.literals.as_slice())
@@ -48,7 +49,7 @@ fn verdicts_below(
     requires base { IsBaseIn played.now.sheet played.now.season base.now }
     ensures answer { IfOk result (λ found.
         AreVerdictsGiven played.now.sheet played.now.season base.now found.items) }
-    ensures in_range { IfOk result (λ found. AreInRange played.now.sheet found.items) }
+    ensures in_range { IfOk result (λ found. AreInRange is_in_range played.now.sheet found.items) }
 {
     let mut solver = ZoneSolver::new(alloc, played)?;
     let stage = KnownSeason::new(played, Vec::new(alloc));
@@ -67,7 +68,7 @@ pub(crate) fn verdicts_by(
     requires base { IsBaseIn stage.now.sheet stage.now.season base.now }
     ensures answer { IfOk result (λ found.
         AreVerdictsGiven stage.now.sheet stage.now.season base.now found.items) }
-    ensures in_range { IfOk result (λ found. AreInRange stage.now.sheet found.items) }
+    ensures in_range { IfOk result (λ found. AreInRange is_in_range stage.now.sheet found.items) }
     ensures same_sheet { solver.new.sheet ≡ solver.old.sheet }
     ensures same_season { solver.new.season ≡ solver.old.season }
 {

@@ -2,6 +2,8 @@
 
 ghost use Rattle.std.specs.Prelude.{◌≡◌, ◌<◌, ◌++◌, false, IfOk, None, length, slice_index_or};
 ghost use Rattle.league_core.specs.game.Seasons.{IsLeague};
+ghost use Rattle.cert_text.specs.Ranges.{is_in_range};
+ghost use Rattle.cert_text.specs.Lines.{text_of_proof_line};
 ghost use Rattle.answer_rows.specs.inside.ItemRanges.{AreInRange};
 ghost use Rattle.answer_rows.specs.inside.Outputs.{CountsPut, Puts, PutsSomeText};
 ghost use Rattle.answer_rows.specs.inside.Verdicts.{text_of_items};
@@ -166,7 +168,7 @@ fn verdicts_if(
     requires open_match { IsOpenMatch stage.now.sheet stage.now.season fixture }
     ensures answer { IfOk result (λ found. AreVerdictsGiven stage.now.sheet stage.now.season
         (base_of fixture outcome) found.items) }
-    ensures in_range { IfOk result (λ found. AreInRange stage.now.sheet found.items) }
+    ensures in_range { IfOk result (λ found. AreInRange is_in_range stage.now.sheet found.items) }
     ensures same_sheet { solver.new.sheet ≡ solver.old.sheet }
     ensures same_season { solver.new.season ≡ solver.old.season }
 {
@@ -184,9 +186,10 @@ fn put_found<K: Sink>(
     verdicts: &[Verdict],
     sink: &mut K,
 ) -> Result<(), OutputStop>
-    requires { AreInRange sheet.now verdicts.now }
+    requires { AreInRange is_in_range sheet.now verdicts.now }
     ensures text { Puts
-        (when_row about.epoch about.fixture outcome ++ text_of_items false sheet.now verdicts.now)
+        (when_row about.epoch about.fixture outcome
+        ++ text_of_items text_of_proof_line false sheet.now verdicts.now)
         (K.holds sink.old) (K.holds sink.new) result }
     ensures counts { CountsPut (K.faults sink.old) (K.faults sink.new) result }
 {

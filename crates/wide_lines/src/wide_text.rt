@@ -11,7 +11,7 @@ ghost use Rattle.wide_lines.specs.WideTexts.{text_of_near, near_line, wide_line_
 ghost use Rattle.wide_lines.specs.WideTexts as texts;
 
 use crate::wide_line::WideLine;
-use cert_text::write_line;
+use cert_text::{LineText, write_line};
 use league_core::OutOfMemory;
 use serde_json::{Value, json};
 use std::alloc::{AllocError, Global};
@@ -28,6 +28,16 @@ pub fn write_wide_line(alloc: Global, line: &WideLine) -> Result<Vec<u8>, OutOfM
         WideLine::Plain(plain) => write_line(alloc, plain),
         WideLine::Near(rival) => near_text(alloc, *rival, false),
         WideLine::NewNear(rival) => near_text(alloc, *rival, true),
+    }
+}
+
+impl LineText for WideLine {
+    ghost in_range = { is_wide_in_range };
+
+    ghost text = { text_of_wide_line };
+
+    fn write(&self, alloc: Global) -> Result<Vec<u8>, OutOfMemory> {
+        write_wide_line(alloc, self)
     }
 }
 

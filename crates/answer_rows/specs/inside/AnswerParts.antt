@@ -22,14 +22,14 @@ IsPart sheet season question Refuted lines = RefutesIfAsked true sheet season qu
 IsPart sheet season question Spent lines = ShowsSpentNow sheet season question lines
 
 -- a part of an answer: its lines show it, and are in the ranges of their forms
-pub record IsAnswerPart (sheet : Sheet) (season : Results) (question : Question) (part : Part)
-    : Type 0 where
+pub record IsAnswerPart (sheet : Sheet) (season : Results) (question : Question)
+    (part : Part ProofLine) : Type 0 where
   pub shows : IsPart sheet season question part.kind part.lines.items
   pub in_range : IsTrue (list_all is_in_range part.lines.items)
 
 -- a part that refutes the question
-pub record IsRefutedPart (sheet : Sheet) (season : Results) (question : Question) (part : Part)
-    : Type 0 where
+pub record IsRefutedPart (sheet : Sheet) (season : Results) (question : Question)
+    (part : Part ProofLine) : Type 0 where
   pub kind : part.kind ≡ Refuted
   pub part_of : IsAnswerPart sheet season question part
 

@@ -1,5 +1,6 @@
 -- The rows of a table: those of a season, and the text in which they are written.
-use Rattle.std.specs.Prelude.{ℕ, ◌<◌, List, [], ◌∷◌, ◌++◌, All, length, map}
+use Rattle.std.specs.Prelude.{ℕ, ◌<◌, List, ◌++◌, All, length, map}
+use Rattle.std.specs.List.{flat_map}
 use Rattle.league_core.specs.declared.sheet.Sheet.{Sheet}
 use Rattle.league_core.specs.game.Results.{Results}
 use Rattle.league_core.specs.game.Sheets.{clubs_of}
@@ -20,11 +21,13 @@ pub record AreTableRows (sheet : Sheet) (season : Results) (rows : List ClubRow)
   pub in_sheet : AreInSheet sheet rows
   pub each : All (λ (found : ClubRow). IsTableRow sheet season found.club found.row) rows
 
+-- the row of a club
+abbrev pub text_of_place : Sheet → ClubRow → List ℕ
+text_of_place sheet found = place_row (club_name sheet found.club) found.row
+
 -- the rows, in their order
 abbrev pub text_of_places : Sheet → List ClubRow → List ℕ
-text_of_places sheet [] = []
-text_of_places sheet (found ∷ rows) =
-    place_row (club_name sheet found.club) found.row ++ text_of_places sheet rows
+text_of_places sheet rows = flat_map (text_of_place sheet) rows
 
 -- the row of the ask, then the rows
 abbrev pub text_of_table : Sheet → ℕ → List ClubRow → List ℕ

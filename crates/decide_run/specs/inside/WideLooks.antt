@@ -10,7 +10,7 @@ use Rattle.depth_search.specs.declared.kind.ZoneLook.{ZoneLook}
 use Rattle.depth_search.specs.inside.Searches.{IsFoundBy}
 use Rattle.wide_lines.specs.declared.wide_reason.WideReason.{WideReason}
 use Rattle.wide_lines.specs.WideReasons.{has_wide_reason}
-use Rattle.decided_rows.specs.FairTrees.{IsWideFairSplit}
+use Rattle.decide_run.specs.FairTrees.{IsWideFairSplit}
 
 -- an example of the question
 abbrev pub IsWideExampleOf : Sheet → Results → Question → Example → Type 0

@@ -24,7 +24,7 @@ use Rattle.wide_lines.specs.declared.wide_node.WideNode.TheVariants as wide_node
 use Rattle.wide_lines.specs.WideTrees.{WideTree, open_leaf, refuted_leaf, branch}
 use Rattle.wide_lines.specs.WideTreeLines.{IsWideRefutation}
 use Rattle.decide_run.specs.declared.task.Task.{Task}
-use Rattle.decided_rows.specs.FairTrees.{IsWideSpentFairly, IsWideFairSplit}
+use Rattle.decide_run.specs.FairTrees.{IsWideSpentFairly, IsWideFairSplit}
 use Rattle.decide_run.specs.inside.WideLooks.{IsWideExampleOf, IsReasonIn}
 
 -- ---- what is asked

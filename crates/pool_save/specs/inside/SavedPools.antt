@@ -7,6 +7,7 @@ use Rattle.league_core.specs.game.Results.{Results}
 use Rattle.league_core.specs.search.Trees.{Tree}
 use Rattle.branch_pool.specs.declared.question_state.QuestionState.{QuestionState}
 use Rattle.branch_pool.specs.inside.States.{PoolView}
+use Rattle.cert_text.specs.declared.proof_line.ProofLine.{ProofLine}
 use Rattle.answer_rows.specs.declared.word.Verdict.{Verdict}
 use Rattle.answer_rows.specs.Items.{answer_row}
 use Rattle.pool_save.specs.NearlyDone.{IsNearlyDone}
@@ -22,6 +23,6 @@ AreNearlySaved pool trees =
     → IsNearlyKnown pool.sheet pool.season seat
 
 -- of no question whose saved tree was nearly done the verdict says that the budget was spent
-abbrev pub IsUnspentVerdict : Sheet → Results → List (Option Tree) → Verdict → Type 0
+abbrev pub IsUnspentVerdict : Sheet → Results → List (Option Tree) → Verdict ProofLine → Type 0
 IsUnspentVerdict sheet season trees verdict =
     IsShownUnspent sheet season trees (answer_row verdict) verdict.proof.items

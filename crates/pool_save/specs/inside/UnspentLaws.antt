@@ -6,6 +6,7 @@ use Rattle.league_core.specs.declared.question.Claim.{Claim}
 use Rattle.league_core.specs.game.Results.{Results, are_results}
 use Rattle.league_core.specs.game.Seasons.{IsLeague}
 use Rattle.league_core.specs.search.Trees.{Tree}
+use Rattle.cert_text.specs.Lines.{text_of_proof_line}
 use Rattle.cert_text.specs.declared.proof_line.ProofLine.{ProofLine}
 use Rattle.branch_pool.specs.inside.States.{PoolView, new_seat, out_count}
 use Rattle.branch_pool.specs.inside.Goodness.{IsSoundPool}
@@ -44,7 +45,8 @@ WorkKeepsNearlySaved =
 -- when the work is done, no verdict says of such a question that the budget was spent
 abbrev pub VerdictsAreUnspent : Type 0
 VerdictsAreUnspent =
-    (pool : PoolView) (trees : List (Option Tree)) (verdicts : List Verdict) → IsSoundPool pool
+    (pool : PoolView) (trees : List (Option Tree)) (verdicts : List (Verdict ProofLine))
+    → IsSoundPool pool
     → pool.questions ≡ questions_of pool.sheet → out_count pool.loans ≡ 0 → AreSettled pool
     → AreNearlySaved pool trees → AreVerdictsOf pool.sheet pool.season verdicts
     → AreOfPool pool verdicts → All (IsUnspentVerdict pool.sheet pool.season trees) verdicts
@@ -76,10 +78,10 @@ ShownLinesAreUnspent =
 abbrev pub UnspentVerdictsAreItems : Type 0
 UnspentVerdictsAreItems =
     (proofs : Bool) (sheet : Sheet) (season : Results) (trees : List (Option Tree))
-    (verdicts : List Verdict) → All (IsShownVerdict sheet season) verdicts
+    (verdicts : List (Verdict ProofLine)) → All (IsShownVerdict sheet season) verdicts
     → All (IsUnspentVerdict sheet season trees) verdicts
     → IsMadeOf (IsItemText proofs sheet season (Some trees)) (map answer_row verdicts)
-    (text_of_items proofs sheet verdicts)
+    (text_of_items text_of_proof_line proofs sheet verdicts)
 
 -- there are always such items: each season has an answer without a spent budget
 abbrev pub EachSeasonHasUnspentItems : Type 0

@@ -11,12 +11,13 @@ use Rattle.cert_check.specs.declared.expected.ReportKind.TheVariants.{Plain, Wid
 use Rattle.cert_check.specs.LineGrammars.{whole_at}
 use Rattle.cert_check.specs.Machine.{basis_of, ending_of, part_of_ask}
 use Rattle.cert_check.specs.inside.Answers.{ShownItem, answer_tokens, unsettled_items}
+use Rattle.cert_text.specs.declared.proof_line.ProofLine.{ProofLine}
+use Rattle.wide_lines.specs.declared.wide_line.WideLine.{WideLine}
 use Rattle.answer_rows.specs.declared.word.Word.{Word}
 use Rattle.answer_rows.specs.declared.word.Word.TheVariants.{Clinched, Lost, Possible, Unsettled}
 use Rattle.answer_rows.specs.declared.word.Verdict.{Verdict}
 use Rattle.answer_rows.specs.Items.{AreVerdictsOf}
-use Rattle.decided_rows.specs.declared.item.Decided.{Decided}
-use Rattle.decided_rows.specs.inside.AllDecided.{AreAllDecided}
+use Rattle.decide_run.specs.inside.AllDecided.{AreAllDecided}
 
 -- the word of a row for the word of a verdict
 abbrev pub row_word : Word → RowWord
@@ -33,7 +34,7 @@ unsettled_one Possible = 0
 unsettled_one Unsettled = 1
 
 -- a verdict as an item of a report: the row about its line and its club, and its lines after it
-abbrev pub item_of_verdict : Verdict → ShownItem
+abbrev pub item_of_verdict : Verdict ProofLine → ShownItem
 item_of_verdict verdict =
     record {
       line = verdict.line;
@@ -43,7 +44,7 @@ item_of_verdict verdict =
     }
 
 -- the same of what is decided of a line and a club
-abbrev pub item_of_decided : Decided → ShownItem
+abbrev pub item_of_decided : Verdict WideLine → ShownItem
 item_of_decided found =
     record {
       line = found.line;
@@ -54,8 +55,8 @@ item_of_decided found =
 
 -- what an answer in a report of this kind says: verdicts, or what was decided
 abbrev pub Findings : ReportKind → Type 0
-Findings Plain = List Verdict
-Findings Wide = List Decided
+Findings Plain = List (Verdict ProofLine)
+Findings Wide = List (Verdict WideLine)
 
 -- one of them for each line and each club, all of them right and shown
 abbrev pub AreFindingsOf : (kind : ReportKind) → Sheet → Results → Findings kind → Type 0

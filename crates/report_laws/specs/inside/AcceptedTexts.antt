@@ -12,7 +12,7 @@ use Rattle.command_words.specs.declared.command.Mode.TheVariants.{Verdicts, Deci
 use Rattle.cert_check.specs.declared.expected.ReportKind.{ReportKind}
 use Rattle.cert_check.specs.declared.expected.ReportKind.TheVariants.{Plain, Wide}
 use Rattle.pool_save.specs.SavedAnswers.{IsItemText}
-use Rattle.decided_rows.specs.DecidedTexts.{IsDecidedItemText}
+use Rattle.decide_run.specs.DecidedTexts.{IsDecidedItemText}
 use Rattle.run_ends.specs.declared.status.Status.TheVariants.{Done}
 use Rattle.session_turns.specs.Plays.{Played}
 use Rattle.session_turns.specs.Answers.{IsAnswerTo}

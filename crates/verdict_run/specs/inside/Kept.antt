@@ -51,25 +51,26 @@ TellsSeat sheet season seat lines = TellsExample sheet season seat seat.example 
 -- a part of an answer comes from what is kept of its question: from the refuted tree if the pool
 -- answers by that, and else, unless a refutation was found since, from the example or a spent
 -- budget
-pub record IsOfSeat (sheet : Sheet) (season : Results) (seat : QuestionState) (part : Part) : Type 0
+pub record IsOfSeat (sheet : Sheet) (season : Results) (seat : QuestionState)
+    (part : Part ProofLine) : Type 0
   where
     pub refuted : answer_of sheet seat ≡ answer.Refuted
         → (part.kind ≡ Refuted) × (part.lines.items ≡ lines_of_refuted seat)
     pub others : part.kind ≢ Refuted → TellsSeat sheet season seat part.lines.items
 
 -- the part of the question at a place comes from what is kept there
-abbrev pub IsOfPlace : PoolView → ℕ → Part → Type 0
+abbrev pub IsOfPlace : PoolView → ℕ → Part ProofLine → Type 0
 IsOfPlace pool place part =
     (seat : QuestionState) → slice_get pool.seats place ≡ Some seat
     → IsOfSeat pool.sheet pool.season seat part
 
 -- what is found of a question that may be refuted: its refutation, or nothing if it is not
-abbrev pub IsFoundIfRefuted : QuestionState → Option Part → Type 0
+abbrev pub IsFoundIfRefuted : QuestionState → Option (Part ProofLine) → Type 0
 IsFoundIfRefuted seat None = is_refuted seat.tree ≡ false
 IsFoundIfRefuted seat (Some part) = part.lines.items ≡ lines_of_refuted seat
 
 -- what is found of the question at a place
-abbrev pub IsFoundAt : PoolView → ℕ → Option Part → Type 0
+abbrev pub IsFoundAt : PoolView → ℕ → Option (Part ProofLine) → Type 0
 IsFoundAt pool place found =
     (seat : QuestionState) → slice_get pool.seats place ≡ Some seat → IsFoundIfRefuted seat found
 
@@ -77,7 +78,7 @@ IsFoundAt pool place found =
 
 -- if the pool answers that the question at a place is refuted, this is the word, and the lines are
 -- the refutation that it keeps
-abbrev pub TellsRefuted : PoolView → ℕ → Word → Verdict → Type 0
+abbrev pub TellsRefuted : PoolView → ℕ → Word → Verdict ProofLine → Type 0
 TellsRefuted pool place word verdict =
     (seat : QuestionState) → slice_get pool.seats place ≡ Some seat
     → answer_of pool.sheet seat ≡ answer.Refuted
@@ -104,13 +105,13 @@ TellsOthers pool place Unsettled lines = TellsBoth pool place lines
 
 -- a verdict comes from what the pool keeps of its two questions, `Inside` at this place and
 -- `Outside` at the next one
-pub record IsOfPool (pool : PoolView) (place : ℕ) (verdict : Verdict) : Type 0 where
+pub record IsOfPool (pool : PoolView) (place : ℕ) (verdict : Verdict ProofLine) : Type 0 where
   pub inside : TellsRefuted pool place Lost verdict
   pub outside : TellsRefuted pool (place + 1) Clinched verdict
   pub others : TellsOthers pool place verdict.word verdict.proof.items
 
 -- so does each verdict of an answer
-abbrev pub AreOfPool : PoolView → List Verdict → Type 0
+abbrev pub AreOfPool : PoolView → List (Verdict ProofLine) → Type 0
 AreOfPool pool verdicts =
-    (row : ℕ) (verdict : Verdict) → slice_get verdicts row ≡ Some verdict
+    (row : ℕ) (verdict : Verdict ProofLine) → slice_get verdicts row ≡ Some verdict
     → IsOfPool pool (2 * row) verdict

@@ -10,6 +10,8 @@ use Rattle.league_core.specs.game.Questions.{full_question, IsQuestionOf}
 use Rattle.branch_pool.specs.declared.question_state.QuestionState.{QuestionState}
 use Rattle.branch_pool.specs.inside.States.{PoolView}
 use Rattle.branch_pool.specs.inside.Goodness.{IsGoodSeat}
+use Rattle.cert_text.specs.declared.proof_line.ProofLine.{ProofLine}
+use Rattle.cert_text.specs.Ranges.{is_in_range}
 use Rattle.answer_rows.specs.declared.word.Word.TheVariants.{Unsettled}
 use Rattle.answer_rows.specs.declared.word.Verdict.{Verdict}
 use Rattle.answer_rows.specs.declared.part.Part.{Part}
@@ -20,13 +22,13 @@ use Rattle.verdict_run.specs.inside.Working.{IsEnough, is_settled}
 use Rattle.answer_rows.specs.inside.AnswerParts.{IsAnswerPart, IsRefutedPart}
 
 -- it is the part of the question at a place
-abbrev pub IsPartAt : PoolView → ℕ → Part → Type 0
+abbrev pub IsPartAt : PoolView → ℕ → Part ProofLine → Type 0
 IsPartAt pool place part =
     (question : Question) → slice_get pool.questions place ≡ Some question
     → IsAnswerPart pool.sheet pool.season question part
 
 -- it refutes the question at a place
-abbrev pub IsRefutedAt : PoolView → ℕ → Part → Type 0
+abbrev pub IsRefutedAt : PoolView → ℕ → Part ProofLine → Type 0
 IsRefutedAt pool place part =
     (question : Question) → slice_get pool.questions place ≡ Some question
     → IsRefutedPart pool.sheet pool.season question part
@@ -46,8 +48,9 @@ pub record AsksBoth (pool : PoolView) (place : ℕ) (row : AnswerRow) : Type 0 w
       slice_get pool.questions (place + 1) ≡ Some (full_question row.club row.line Outside)
 
 -- the verdict is about the row, right and shown, in range, and known if the budget is great enough
-pub record IsAnswered (pool : PoolView) (row : AnswerRow) (verdict : Verdict) : Type 0 where
+pub record IsAnswered (pool : PoolView) (row : AnswerRow) (verdict : Verdict ProofLine) :
+    Type 0 where
   pub is_row : answer_row verdict ≡ row
   pub shown : IsShownVerdict pool.sheet pool.season verdict
-  pub in_range : IsInRange pool.sheet verdict
+  pub in_range : IsInRange is_in_range pool.sheet verdict
   pub enough : IsEnough pool.sheet pool.season → verdict.word ≢ Unsettled

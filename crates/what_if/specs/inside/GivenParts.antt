@@ -42,24 +42,26 @@ IsPartGiven sheet season zone question Spent lines =
 
 -- a part of an answer given the zone: its lines show it, and are in the ranges of their forms
 pub record IsAnswerPartGiven (sheet : Sheet) (season : Results) (zone : List Literal)
-    (question : Question) (part : Part) : Type 0 where
+    (question : Question) (part : Part ProofLine) : Type 0 where
   pub shows : IsPartGiven sheet season zone question part.kind part.lines.items
   pub in_range : IsTrue (list_all is_in_range part.lines.items)
 
 -- the verdict is right and shown given the zone, and in range
 pub record IsRightGiven (sheet : Sheet) (season : Results) (zone : List Literal)
-    (verdict : Verdict) : Type 0 where
+    (verdict : Verdict ProofLine) : Type 0 where
   pub shown : IsShownGiven sheet season zone verdict
-  pub in_range : IsInRange sheet verdict
+  pub in_range : IsInRange is_in_range sheet verdict
 
 -- such verdicts about the first lines
-abbrev pub AreRightForLines : Sheet → Results → List Literal → List ℕ → List Verdict → Type 0
+abbrev pub AreRightForLines : Sheet → Results → List Literal → List ℕ → List (Verdict ProofLine)
+    → Type 0
 AreRightForLines sheet season zone lines verdicts =
     AreAbout answer_row (IsRightGiven sheet season zone)
     (flat_map (answer_rows_of (length sheet.clubs)) lines) verdicts
 
 -- what is added: such verdicts about the first clubs and a line
-abbrev pub AddsVerdicts : Sheet → Results → List Literal → ℕ → ℕ → List Verdict → List Verdict
+abbrev pub AddsVerdicts : Sheet → Results → List Literal → ℕ → ℕ → List (Verdict ProofLine)
+    → List (Verdict ProofLine)
     → Type 0
 AddsVerdicts sheet season zone line clubs old new =
     AddsAbout answer_row (IsRightGiven sheet season zone) line clubs old new

@@ -1,4 +1,5 @@
 use Rattle.std.proofs.Common.{None}
+use Rattle.cert_text.specs.Lines.{text_of_proof_line}
 use Rattle.answer_rows.specs.inside.Verdicts.{text_of_verdicts}
 use Rattle.command_words.specs.declared.command.Mode.TheVariants.{Resume}
 use Rattle.session_turns.proofs.AnswerLemmas.{puts-answer, verdicts-answer}
@@ -9,7 +10,7 @@ returns-clause-answer g c =
     let found = c.in-Ok.found.items in
     λ saved kept.
     puts-answer (Resume c.args.proofs) c.args.pool.now None saved _ _
-    (text_of_verdicts c.args.proofs c.sheet.result.now c.epoch.result found)
+    (text_of_verdicts text_of_proof_line c.args.proofs c.sheet.result.now c.epoch.result found)
     c.put_verdicts.result
     (verdicts-answer c.args.proofs c.args.pool.now found saved _ _ c.requires.live
     c.recall_invariant.ensures.sound c.requires.settled kept

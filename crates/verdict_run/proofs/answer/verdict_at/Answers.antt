@@ -2,6 +2,7 @@ use Rattle.std.proofs.Common.{◌+◌, Option, refl, subst}
 use Rattle.std.specs.Prelude.{IfSome}
 use Rattle.league_core.specs.declared.question.Claim.TheVariants.{Inside, Outside}
 use Rattle.league_core.specs.game.Questions.{full_question}
+use Rattle.cert_text.specs.declared.proof_line.ProofLine.{ProofLine}
 use Rattle.answer_rows.specs.declared.part.Part.{Part}
 use Rattle.verdict_run.specs.inside.Parts.{IsRefutedAt}
 use Rattle.verdict_run.specs.inside.Kept.{IsFoundAt}
@@ -15,7 +16,8 @@ pub returns-in-Some-clause-answered : goal.returns-in-Some-clause-answered
 returns-in-Some-clause-answered c = λ row asks.
     let pool = c.args.pool.now in
     let place = c.args.place in
-    let P : Option Part → Type 0 = λ found. IfSome found (IsRefutedAt pool (place + 1)) in
+    let P : Option (Part ProofLine) → Type 0 = λ found. IfSome found (IsRefutedAt pool (place + 1))
+    in
     answered_clinched pool row (asked_at c.questions.result.now place) c.in-Some.outside
     (asks_inside pool place row c.questions.result.now c.questions.ensures.questions asks)
     (row_club pool place row c.recall_invariant.ensures.sound asks)
@@ -26,8 +28,9 @@ pub returns-in-Some-clause-of_pool : goal.returns-in-Some-clause-of_pool
 returns-in-Some-clause-of_pool c = λ row asks.
     let pool = c.args.pool.now in
     let place = c.args.place in
-    let P : Option Part → Type 0 = λ found. IfSome found (IsRefutedAt pool (place + 1)) in
-    let Q : Option Part → Type 0 = λ found. IsFoundAt pool (place + 1) found in
+    let P : Option (Part ProofLine) → Type 0 = λ found. IfSome found (IsRefutedAt pool (place + 1))
+    in
+    let Q : Option (Part ProofLine) → Type 0 = λ found. IsFoundAt pool (place + 1) found in
     outside_of_pool pool place _
     (λ seat. not_refuted_too pool place row c.in-Some.outside seat c.recall_invariant.ensures.sound
     asks

@@ -1,6 +1,7 @@
 use Rattle.std.proofs.Common.{◌≡◌, ◌*◌, ◌<◌, ◌≤◌, List, length, ap, sym, ◌∙◌, subst, arith}
 use Rattle.std.proofs.Common.{get_or}
 use Rattle.league_core.specs.declared.question.Question.{Question}
+use Rattle.cert_text.specs.declared.proof_line.ProofLine.{ProofLine}
 use Rattle.answer_rows.specs.declared.word.Verdict.{Verdict}
 use Rattle.answer_rows.specs.Items.{AnswerRow, answer_rows}
 use Rattle.verdict_run.proofs.VerdictLemmas.{none_answered, one_answered, all_answered}
@@ -9,7 +10,7 @@ use Rattle.verdict_run.proofs.answer.verdicts.Goals as goal
 
 pub loop-row-init : goal.loop-row-init
 loop-row-init c =
-    let P : List Verdict → Type 0 = λ found. AreAnswered c.args.pool.now 0 found in
+    let P : List (Verdict ProofLine) → Type 0 = λ found. AreAnswered c.args.pool.now 0 found in
     subst P (sym c.new-found.ensures.items) (none_answered c.args.pool.now)
 
 pub loop-row-preserved : goal.loop-row-preserved

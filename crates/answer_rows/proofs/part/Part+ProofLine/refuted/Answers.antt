@@ -1,5 +1,5 @@
 use Rattle.answer_rows.proofs.PartLemmas.{refuted_part}
-use Rattle.answer_rows.proofs.part.Part.refuted.Goals as goal
+use Rattle.answer_rows.proofs.part.Part+ProofLine.refuted.Goals as goal
 
 pub returns-clause-part : goal.returns-clause-part
 returns-clause-part c =

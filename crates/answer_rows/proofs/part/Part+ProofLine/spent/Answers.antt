@@ -1,6 +1,6 @@
 use Rattle.std.proofs.Common.{ap, ◌∙◌, map}
 use Rattle.cert_text.specs.TreeLines.{marked_line, with_spent_head}
-use Rattle.answer_rows.proofs.part.Part.spent.Goals as goal
+use Rattle.answer_rows.proofs.part.Part+ProofLine.spent.Goals as goal
 
 pub returns-clause-lines : goal.returns-clause-lines
 returns-clause-lines c =

@@ -20,7 +20,7 @@ use Rattle.wide_lines.specs.WideTreeLines.{with_wide_tree_head}
 use Rattle.answer_rows.specs.declared.word.Word.{Word}
 use Rattle.answer_rows.specs.declared.word.Word.TheVariants.{Clinched, Lost, Possible, Unsettled}
 use Rattle.answer_rows.specs.Items.{ShowsBothParts}
-use Rattle.decided_rows.specs.FairTrees.{IsWideSpentFairly}
+use Rattle.decide_run.specs.FairTrees.{IsWideSpentFairly}
 
 -- the lines show that the budget was spent on the question: its head, and a tree on which it was
 -- spent fairly

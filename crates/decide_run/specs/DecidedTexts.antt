@@ -1,7 +1,6 @@
 -- What the mode `decide` answers: for each line and each club the word of the season, and after it
 -- what shows it.
-use Rattle.std.specs.Prelude.{◌≡◌, ℕ, Bool, List, [], ◌∷◌, ◌++◌}
-use Rattle.std.specs.List.{flat_map}
+use Rattle.std.specs.Prelude.{◌≡◌, ℕ, Bool, List, ◌++◌}
 use Rattle.league_core.specs.declared.sheet.Sheet.{Sheet}
 use Rattle.league_core.specs.game.Results.{Results}
 use Rattle.wide_lines.specs.declared.wide_line.WideLine.{WideLine}
@@ -9,16 +8,12 @@ use Rattle.wide_lines.specs.WideTexts.{text_of_wide_line}
 use Rattle.answer_rows.specs.declared.word.Word.{Word}
 use Rattle.answer_rows.specs.Items.{AnswerRow, answer_rows}
 use Rattle.answer_rows.specs.Parts.{IsMadeOf, club_name}
-use Rattle.answer_rows.specs.Rows.{ask_row, verdict_row}
-use Rattle.decided_rows.specs.Decisions.{IsDecidedItem}
-
--- a line alone on its row
-abbrev pub wide_line_row : WideLine → List ℕ
-wide_line_row line = text_of_wide_line line ++ 10 ∷ []
+use Rattle.answer_rows.specs.Rows.{ask_row, text_of_lines, verdict_row}
+use Rattle.decide_run.specs.Decisions.{IsDecidedItem}
 
 -- the lines, each on a row of its own
 abbrev pub text_of_wide_lines : List WideLine → List ℕ
-text_of_wide_lines lines = flat_map wide_line_row lines
+text_of_wide_lines lines = text_of_lines text_of_wide_line lines
 
 -- an item as it is written, with proofs or without: the row of a word that is right, and then lines
 -- that show it

@@ -1,7 +1,7 @@
 use Rattle.std.proofs.Common.{sym}
 use Rattle.league_core.proofs.FinishLemmas.{may_all_end-length}
 use Rattle.answer_rows.proofs.PartLemmas.{won_part}
-use Rattle.answer_rows.proofs.part.Part.won.Goals as goal
+use Rattle.answer_rows.proofs.part.Part+ProofLine.won.Goals as goal
 
 pub example_lines-requires-clause-same : goal.example_lines-requires-clause-same
 example_lines-requires-clause-same c =

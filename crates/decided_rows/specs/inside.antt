@@ -1,4 +1,0 @@
--- What the functions promise each other and the crates above: no promise of the program rests on
--- these words.
-pub mod AllDecided
-pub mod DecidedRanges
