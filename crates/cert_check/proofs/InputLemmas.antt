@@ -9,7 +9,8 @@ use Rattle.port_core.specs.Readers.{LineReaderView}
 use Rattle.port_core.specs.inside.ReaderCalls.{NextGives, LeavesReader}
 use Rattle.port_core.specs.declared.line.Line.TheVariants as line
 use Rattle.fixture_sheet.specs.declared.fault.SheetFault.{SheetFault}
-use Rattle.fixture_sheet.specs.declared.fault.SheetStop.TheVariants as sheet_stop
+use Rattle.fixture_sheet.specs.declared.fault.ReadingStop.TheVariants as sheet_stop
+use Rattle.fixture_sheet.specs.Records.{sheet_rules}
 use Rattle.fixture_sheet.specs.Sheets.{SheetReading, sheet_reading_of}
 use Rattle.fixture_sheet.specs.inside.Calls.{CountsSheet, ReadsSheet}
 use Rattle.result_log.specs.declared.entry.Entry.{Entry}
@@ -69,7 +70,7 @@ checks-behind one two contents rest after front is same (Err failure.OutOfMemory
 
 -- after a whole sheet
 pub input-sheet : (kind : ReportKind) (before mid after : Option Contents) (sheet : Sheet)
-    (result : Result CheckOutcome CheckFailure) → ReadsSheet before mid (Ok sheet)
+    (result : Result CheckOutcome CheckFailure) → ReadsSheet sheet_rules before mid (Ok sheet)
     → IfRead mid (λ rest. ChecksBy (outcome_after_sheet kind sheet) rest after result)
     → IfRead before (λ contents. ChecksBy (outcome_of kind) contents after result)
 input-sheet kind before mid after sheet result reads checks = λ contents is.
@@ -85,7 +86,7 @@ input-sheet kind before mid after sheet result reads checks = λ contents is.
 -- at a refused line of it
 pub input-sheet_fault : (kind : ReportKind) (before after : Option Contents) (number : ℕ) (fault :
     SheetFault)
-    → ReadsSheet before after (Err (sheet_stop.Fault number fault))
+    → ReadsSheet sheet_rules before after (Err (sheet_stop.Fault number fault))
     → IfRead before (λ contents. ChecksBy (outcome_of kind) contents after (Ok (BadSheet number
     fault)))
 input-sheet_fault kind before after number fault reads = λ contents is.
@@ -97,7 +98,7 @@ input-sheet_fault kind before after number fault reads = λ contents is.
 -- where it stops
 pub input-sheet_stop : (kind : ReportKind) (before after : Option Contents) (stop : ReadStop)
     (result : Result CheckOutcome CheckFailure) → IsStoppedBy stop result
-    → ReadsSheet before after (Err (sheet_stop.Read stop))
+    → ReadsSheet sheet_rules before after (Err (sheet_stop.Read stop))
     → IfRead before (λ contents. ChecksBy (outcome_of kind) contents after result)
 input-sheet_stop kind before after read_stop.ReadFault result answers reads = λ contents is.
     let leads = reads.1 in
@@ -331,7 +332,7 @@ stop-leaves new left (read_stop.InputTooLong number) result answers leaves =
 -- the count, after the sheet
 pub sheet-stop-counts : (before now : ℕ) (stop : ReadStop)
     (result : Result CheckOutcome CheckFailure) → IsStoppedBy stop result
-    → CountsSheet {A = Sheet} before now (Err (sheet_stop.Read stop))
+    → CountsSheet {A = Sheet} {F = SheetFault} before now (Err (sheet_stop.Read stop))
     → CountsCheck before now result
 sheet-stop-counts before now read_stop.ReadFault result answers counts =
     subst (CountsCheck before now) (sym answers) counts

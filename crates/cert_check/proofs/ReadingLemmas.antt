@@ -6,10 +6,11 @@ use Rattle.port_core.specs.declared.line.ReadStop.{ReadStop}
 use Rattle.port_core.specs.Contents.{Contents, with_lines}
 use Rattle.port_core.proofs.ContentLemmas.{with_lines-append}
 use Rattle.fixture_sheet.specs.declared.fault.SheetFault.{SheetFault}
-use Rattle.fixture_sheet.specs.declared.record.Progress.{Progress}
-use Rattle.fixture_sheet.specs.declared.record.Progress.TheVariants.{SoFar, Whole}
+use Rattle.fixture_sheet.specs.Records.{SheetProgress}
+use Rattle.fixture_sheet.specs.declared.progress.Progress.TheVariants.{SoFar, Whole}
 use Rattle.fixture_sheet.specs.Records.{content_taken}
-use Rattle.fixture_sheet.specs.Sheets.{SheetReading, sheet_reading_by, sheet_reading_from}
+use Rattle.fixture_sheet.specs.Readings.{reading_by}
+use Rattle.fixture_sheet.specs.Sheets.{SheetReading, sheet_reading_from}
 use Rattle.result_log.specs.declared.entry.Entry.{Entry}
 use Rattle.result_log.specs.declared.entry.Entry.TheVariants.{End}
 use Rattle.result_log.specs.declared.fault.FeedFault.{FeedFault}
@@ -62,7 +63,7 @@ sheet-more line lines ending draft next sheet rest made behind = (
   line ∷ behind.0,
   ap (λ (c : Contents). record { lines = line ∷ c.lines; ending = c.ending }) behind.1,
   λ other.
-      ap (sheet_reading_by line.0
+      ap (reading_by line.0
       (record { lines = behind.0 ++ other.lines; ending = other.ending })
       (sheet_reading_from (behind.0 ++ other.lines) other.ending)) made ∙ behind.2 other,
 )
@@ -78,7 +79,7 @@ sheet-last line lines ending draft found sheet rest made same is = (
   line ∷ [],
   ap (λ (c : Contents). record { lines = line ∷ c.lines; ending = c.ending }) is,
   λ other.
-      ap (sheet_reading_by line.0 other (sheet_reading_from other.lines other.ending)) made
+      ap (reading_by line.0 other (sheet_reading_from other.lines other.ending)) made
       ∙ ap (λ (it : Sheet). record { gives = Ok it; rest = other }) same,
 )
 
@@ -95,11 +96,11 @@ sheet_of_reading (line ∷ lines) ending draft sheet rest is =
     by_made (content_taken draft line.1) refl
     (λ next. sheet_of_reading lines ending next sheet rest) is
   where
-    by_made : (made : Result Progress SheetFault) → content_taken draft line.1 ≡ made
+    by_made : (made : Result SheetProgress SheetFault) → content_taken draft line.1 ≡ made
         → ((next : Option Sheet)
         → sheet_reading_from lines ending next ≡ record { gives = Ok sheet; rest = rest }
         → IsSheetOf lines ending next sheet rest)
-        → sheet_reading_by line.0 (record { lines = lines; ending = ending })
+        → reading_by line.0 (record { lines = lines; ending = ending })
         (sheet_reading_from lines ending) made ≡ record { gives = Ok sheet; rest = rest }
         → IsSheetOf (line ∷ lines) ending draft sheet rest
     by_made (Ok (SoFar next)) made onward is =

@@ -12,10 +12,11 @@ use Rattle.cert_check.specs.inside.InputCalls.{ChecksBy, CountsCheck, IfRead, Is
 use Rattle.cert_check.specs.inside.InputCalls.{LeavesCheck}
 use Rattle.cert_check.proofs.InputLemmas.{checks-behind}
 use Rattle.cert_check.proofs.ReadingLemmas.{read_after}
+use Rattle.fixture_sheet.specs.declared.fault.ReadingStop.TheVariants as cup_stop
+use Rattle.fixture_sheet.specs.inside.Calls.{CountsSheet, ReadsSheet}
 use Rattle.cup_sheet.specs.declared.cup.Cup.{Cup}
 use Rattle.cup_sheet.specs.declared.fault.CupFault.{CupFault}
-use Rattle.cup_sheet.specs.declared.fault.CupStop.TheVariants as cup_stop
-use Rattle.cup_sheet.specs.CupCalls.{CountsCup, ReadsCup}
+use Rattle.cup_sheet.specs.CupRecords.{cup_rules}
 use Rattle.cup_sheet.specs.CupReadings.{cup_reading_of}
 use Rattle.cup_check.specs.declared.outcome.CupOutcome.TheVariants.{BadCup, Judged}
 use Rattle.cup_check.specs.CupOutcomes.{cup_outcome_of, outcome_after_cup}
@@ -55,7 +56,7 @@ counts-judged before now (Err failure.OutOfMemory) counts = counts
 
 -- after a whole sheet
 pub input-cup : (before mid after : Option Contents) (cup : Cup)
-    (result : Result CheckOutcome CheckFailure) → ReadsCup before mid (Ok cup)
+    (result : Result CheckOutcome CheckFailure) → ReadsSheet cup_rules before mid (Ok cup)
     → IfRead mid (λ rest. ChecksBy (outcome_after_cup cup) rest after result)
     → IfRead before (λ contents. ChecksBy cup_outcome_of contents after (as_cup_outcome result))
 input-cup before mid after cup result reads checks = λ contents is.
@@ -70,7 +71,7 @@ input-cup before mid after cup result reads checks = λ contents is.
 
 -- at a refused line of it
 pub input-cup_fault : (before after : Option Contents) (number : ℕ) (fault : CupFault)
-    → ReadsCup before after (Err (cup_stop.Fault number fault))
+    → ReadsSheet cup_rules before after (Err (cup_stop.Fault number fault))
     → IfRead before (λ contents. ChecksBy cup_outcome_of contents after
     (Ok (BadCup number fault)))
 input-cup_fault before after number fault reads = λ contents is.
@@ -82,7 +83,7 @@ input-cup_fault before after number fault reads = λ contents is.
 -- where it stops
 pub input-cup_stop : (before after : Option Contents) (stop : ReadStop)
     (result : Result CheckOutcome CheckFailure) → IsStoppedBy stop result
-    → ReadsCup before after (Err (cup_stop.Read stop))
+    → ReadsSheet cup_rules before after (Err (cup_stop.Read stop))
     → IfRead before (λ contents. ChecksBy cup_outcome_of contents after (as_cup_outcome result))
 input-cup_stop before after read_stop.ReadFault result answers reads = λ contents is.
     let leads = reads.1 in
@@ -110,7 +111,7 @@ input-cup_stop before after (read_stop.InputTooLong number) result answers reads
 
 pub cup-stop-counts : (before now : ℕ) (stop : ReadStop)
     (result : Result CheckOutcome CheckFailure) → IsStoppedBy stop result
-    → CountsCup {A = Cup} before now (Err (cup_stop.Read stop))
+    → CountsSheet {A = Cup} {F = CupFault} before now (Err (cup_stop.Read stop))
     → CountsCheck before now result
 cup-stop-counts before now read_stop.ReadFault result answers counts =
     subst (CountsCheck before now) (sym answers) counts

@@ -24,8 +24,8 @@ use Rattle.cert_check.specs.Outcomes.{ReportProgressView, first_progress, outcom
 use Rattle.cert_check.specs.Outcomes.{progress_with}
 use Rattle.cert_check.proofs.OutcomeLemmas.{accepted_lines, left-none, stop_accepts_nothing}
 use Rattle.cup_sheet.specs.declared.cup.Cup.{Cup}
-use Rattle.cup_sheet.specs.declared.fault.CupStop.{CupStop}
-use Rattle.cup_sheet.specs.declared.fault.CupStop.TheVariants as cup_stop
+use Rattle.cup_sheet.specs.CupReadings.{CupStop}
+use Rattle.fixture_sheet.specs.declared.fault.ReadingStop.TheVariants as cup_stop
 use Rattle.cup_sheet.specs.Cups.{AreSeasonsOf, IsCup}
 use Rattle.cup_sheet.specs.CupFeeds.{joint_sheet, results_by_group}
 use Rattle.cup_sheet.specs.CupReadings.{cup_reading_of}

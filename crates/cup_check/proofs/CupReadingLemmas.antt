@@ -3,14 +3,13 @@ use Rattle.std.proofs.Common.{◌≡◌, ℕ, List, [], ◌∷◌, ◌++◌, Opt
 use Rattle.std.proofs.Common.{refl, ap, ◌∙◌}
 use Rattle.port_core.specs.declared.line.ReadStop.{ReadStop}
 use Rattle.port_core.specs.Contents.{Contents, with_lines}
+use Rattle.fixture_sheet.specs.declared.progress.Progress.TheVariants.{SoFar, Whole}
+use Rattle.fixture_sheet.specs.Readings.{reading_by}
 use Rattle.cup_sheet.specs.declared.cup.Cup.{Cup}
 use Rattle.cup_sheet.specs.declared.cup.CupDraft.{CupDraft}
 use Rattle.cup_sheet.specs.declared.fault.CupFault.{CupFault}
-use Rattle.cup_sheet.specs.declared.record.CupProgress.{CupProgress}
-use Rattle.cup_sheet.specs.declared.record.CupProgress.TheVariants.{SoFar, Whole}
-use Rattle.cup_sheet.specs.CupRecords.{cup_content_taken}
-use Rattle.cup_sheet.specs.CupReadings.{CupReading, cup_reading_by, cup_reading_from}
-use Rattle.cup_sheet.specs.CupReadings.{cup_reading_of}
+use Rattle.cup_sheet.specs.CupRecords.{CupProgress, cup_content_taken}
+use Rattle.cup_sheet.specs.CupReadings.{CupReading, cup_reading_from, cup_reading_of}
 
 -- lines that are a whole cup, and what comes after them
 pub IsCupBefore : List (ℕ × List ℕ) → Result ℕ ReadStop → Option CupDraft → Cup → Contents
@@ -31,7 +30,7 @@ cup-more line lines ending draft next cup rest made behind = (
   line ∷ behind.0,
   ap (λ (c : Contents). record { lines = line ∷ c.lines; ending = c.ending }) behind.1,
   λ other.
-      ap (cup_reading_by line.0
+      ap (reading_by line.0
       (record { lines = behind.0 ++ other.lines; ending = other.ending })
       (cup_reading_from (behind.0 ++ other.lines) other.ending)) made ∙ behind.2 other,
 )
@@ -47,7 +46,7 @@ cup-last line lines ending draft found cup rest made same is = (
   line ∷ [],
   ap (λ (c : Contents). record { lines = line ∷ c.lines; ending = c.ending }) is,
   λ other.
-      ap (cup_reading_by line.0 other (cup_reading_from other.lines other.ending)) made
+      ap (reading_by line.0 other (cup_reading_from other.lines other.ending)) made
       ∙ ap (λ (it : Cup). record { gives = Ok it; rest = other }) same,
 )
 
@@ -68,7 +67,7 @@ cup_of_reading (line ∷ lines) ending draft cup rest is =
         → ((next : Option CupDraft)
         → cup_reading_from lines ending next ≡ record { gives = Ok cup; rest = rest }
         → IsCupBefore lines ending next cup rest)
-        → cup_reading_by line.0 (record { lines = lines; ending = ending })
+        → reading_by line.0 (record { lines = lines; ending = ending })
         (cup_reading_from lines ending) made ≡ record { gives = Ok cup; rest = rest }
         → IsCupBefore (line ∷ lines) ending draft cup rest
     by_made (Ok (SoFar next)) made onward is =

@@ -17,8 +17,8 @@ use Rattle.cert_check.specs.Outcomes.{ReportProgressView, first_progress, Parted
 use Rattle.cert_check.specs.Outcomes.{part_outcome, parts_outcome, lines_outcome, feed_outcome}
 use Rattle.cert_check.specs.Outcomes.{outcome_of_stop}
 use Rattle.cup_sheet.specs.declared.cup.Cup.{Cup}
-use Rattle.cup_sheet.specs.declared.fault.CupStop.{CupStop}
-use Rattle.cup_sheet.specs.declared.fault.CupStop.TheVariants.{Fault, Read, OutOfMemory}
+use Rattle.cup_sheet.specs.CupReadings.{CupStop}
+use Rattle.fixture_sheet.specs.declared.fault.ReadingStop.TheVariants.{Fault, Read, OutOfMemory}
 use Rattle.cup_sheet.specs.Cups.{clubs_together}
 use Rattle.cup_sheet.specs.CupFeeds.{joint_sheet, results_by_group}
 use Rattle.cup_sheet.specs.CupReadings.{CupReading, cup_reading_of}

@@ -1,8 +1,6 @@
--- What records add to a cup, its reading line by line, and the last read; then lots of one group,
--- of groups that follow one another, of all together, and lots within a group; and worked cups.
+-- What records add to a cup; then lots of one group, of groups that follow one another, of all
+-- together, and lots within a group; and worked cups.
 pub mod CupDraftLemmas
-pub mod CupReadingLemmas
-pub mod CupLastReadLemmas
 pub mod CupLotsLemmas
 pub mod LaidLotsLemmas
 pub mod JoinedLotsLemmas

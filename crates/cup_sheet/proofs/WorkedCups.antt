@@ -14,9 +14,8 @@ use Rattle.cup_sheet.specs.declared.fault.CupFault.TheVariants.{NoCup, NoSeason,
 use Rattle.cup_sheet.specs.declared.fault.CupFault.TheVariants.{TooFewClubs, WrongWidth, BadField}
 use Rattle.cup_sheet.specs.declared.fault.CupFault.TheVariants.{ClubTwice, UnknownClub, SelfMatch}
 use Rattle.cup_sheet.specs.declared.fault.CupFault.TheVariants.{TooMany, TooFewGroups, QuotaRange}
-use Rattle.cup_sheet.specs.declared.fault.CupStop.{CupStop}
-use Rattle.cup_sheet.specs.declared.fault.CupStop.TheVariants.{Fault}
-use Rattle.cup_sheet.specs.CupReadings.{cup_reading_of}
+use Rattle.fixture_sheet.specs.declared.fault.ReadingStop.TheVariants.{Fault}
+use Rattle.cup_sheet.specs.CupReadings.{CupStop, cup_reading_of}
 
 -- these lines with their numbers, from this one on
 abbrev pub numbered_from : ℕ → List (List ℕ) → List (ℕ × List ℕ)

@@ -48,11 +48,6 @@ pub record IsCupDraft (draft : CupDraft) : Type 0 where
   pub many : length (groups_so_far draft) ≤ most_groups
   pub different : IsTrue (are_different same_name (clubs_of_groups (groups_so_far draft)))
 
--- the same, if there is one
-abbrev pub IsCupDraftIfAny : Option CupDraft → Type 0
-IsCupDraftIfAny None = Unit {0}
-IsCupDraftIfAny (Some draft) = IsCupDraft draft
-
 -- a club of the group begun last, by its number there
 abbrev pub IsLastClub : CupDraft → ℕ → Type 0
 IsLastClub draft club = IfSome draft.group (λ (group : Sheet). club < length group.clubs)

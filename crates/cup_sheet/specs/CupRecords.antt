@@ -10,7 +10,9 @@ use Rattle.league_core.specs.declared.sheet.Club.{Club}
 use Rattle.league_core.specs.declared.sheet.Fixture.{Fixture}
 use Rattle.league_core.specs.declared.sheet.Order.TheVariants.{HeadFirst}
 use Rattle.league_core.specs.game.Limits.{most_goal_limit, most_budget}
-use Rattle.fixture_sheet.specs.Fields.{has_return, record_of, field}
+use Rattle.fixture_sheet.specs.declared.progress.Progress.{Progress}
+use Rattle.fixture_sheet.specs.Fields.{field}
+use Rattle.fixture_sheet.specs.Readings.{SheetRules, and_then, content_taken_by, so_far, whole}
 use Rattle.fixture_sheet.specs.Texts.{number_written, number_within, name_of}
 use Rattle.fixture_sheet.specs.Records.{sheet_begun, has_name, club_of, fixture_of}
 use Rattle.cup_sheet.specs.declared.cup.Cup.{Cup}
@@ -20,17 +22,9 @@ use Rattle.cup_sheet.specs.declared.fault.CupFault.{CupFault}
 use Rattle.cup_sheet.specs.declared.fault.CupFault.TheVariants.{NoCup, UnknownRecord, TooFewClubs}
 use Rattle.cup_sheet.specs.declared.fault.CupFault.TheVariants.{WrongWidth, BadField, ClubTwice}
 use Rattle.cup_sheet.specs.declared.fault.CupFault.TheVariants.{UnknownClub, SelfMatch, TooMany}
-use Rattle.cup_sheet.specs.declared.fault.CupFault.TheVariants.{TooFewGroups, QuotaRange}
-use Rattle.cup_sheet.specs.declared.record.CupProgress.{CupProgress}
-use Rattle.cup_sheet.specs.declared.record.CupProgress.TheVariants.{SoFar, Whole}
+use Rattle.cup_sheet.specs.declared.fault.CupFault.TheVariants.{TooFewGroups, QuotaRange, NoSeason}
 use Rattle.cup_sheet.specs.CupLimits.{least_groups, most_groups, least_group_clubs}
 use Rattle.cup_sheet.specs.CupLimits.{most_group_clubs, most_group_fixtures}
-
--- a value, and what is made of it; a refusal stays
-abbrev pub then_taken : {A B : Type 0} → (A → Result B CupFault) → Result A CupFault
-    → Result B CupFault
-then_taken next (Ok value) = next value
-then_taken next (Err fault) = Err fault
 
 -- all groups so far, the one begun last among them
 abbrev pub groups_so_far : CupDraft → List Sheet
@@ -74,7 +68,7 @@ abbrev pub cup_taken : List (List ℕ) → Result CupDraft CupFault
 cup_taken fields =
     if not (bytes_eq (field 0 fields) (codes "cup")) then Err NoCup
     else if not (length fields == 5) then Err WrongWidth
-    else then_taken (λ head. Ok (cup_begun head)) (ok_or (cup_head_of fields) BadField)
+    else and_then (λ head. Ok (cup_begun head)) (ok_or (cup_head_of fields) BadField)
 
 -- ---- group,NAME
 
@@ -97,7 +91,7 @@ abbrev pub group_taken : CupDraft → List (List ℕ) → Result CupDraft CupFau
 group_taken draft fields =
     if is_last_short draft then Err TooFewClubs
     else if not (length fields == 2) then Err WrongWidth
-    else then_taken (group_added draft) (ok_or (name_of (field 1 fields)) BadField)
+    else and_then (group_added draft) (ok_or (name_of (field 1 fields)) BadField)
 
 -- ---- club,NAME,RANK
 
@@ -126,7 +120,7 @@ abbrev pub cup_club_taken : CupDraft → List (List ℕ) → Result CupDraft Cup
 cup_club_taken draft fields =
     if not (is_last_without_matches draft) then Err UnknownRecord
     else if not (length fields == 3) then Err WrongWidth
-    else then_taken (club_added_to draft draft.group) (ok_or (club_of fields) BadField)
+    else and_then (club_added_to draft draft.group) (ok_or (club_of fields) BadField)
 
 -- ---- match,HOME,AWAY
 
@@ -156,7 +150,7 @@ cup_match_taken draft fields =
     if not (is_begun draft) then Err UnknownRecord
     else if is_last_short draft then Err TooFewClubs
     else if not (length fields == 3) then Err WrongWidth
-    else then_taken (fixture_added_to draft draft.group)
+    else and_then (fixture_added_to draft draft.group)
     (ok_or (last_fixture_of draft fields) UnknownClub)
 
 -- ---- season
@@ -181,45 +175,42 @@ cup_season_taken draft fields =
 
 -- ---- any record
 
--- the reading goes on with this cup
-abbrev pub cup_so_far : CupDraft → Result CupProgress CupFault
-cup_so_far draft = Ok (SoFar (Some draft))
-
--- the reading ends with this cup
-abbrev pub whole_cup : Cup → Result CupProgress CupFault
-whole_cup cup = Ok (Whole cup)
+-- what came of a record of a cup
+abbrev pub CupProgress : Type 0
+CupProgress = Progress CupDraft Cup
 
 -- a record after the first one, by its first field
 abbrev pub cup_later_taken : CupDraft → List (List ℕ) → Result CupProgress CupFault
 cup_later_taken draft fields =
-    if bytes_eq (field 0 fields) (codes "group")
-    then then_taken cup_so_far (group_taken draft fields)
+    if bytes_eq (field 0 fields) (codes "group") then and_then so_far (group_taken draft fields)
     else if bytes_eq (field 0 fields) (codes "club")
-    then then_taken cup_so_far (cup_club_taken draft fields)
+    then and_then so_far (cup_club_taken draft fields)
     else if bytes_eq (field 0 fields) (codes "match")
-    then then_taken cup_so_far (cup_match_taken draft fields)
+    then and_then so_far (cup_match_taken draft fields)
     else if bytes_eq (field 0 fields) (codes "season")
-    then then_taken whole_cup (cup_season_taken draft fields)
+    then and_then whole (cup_season_taken draft fields)
     else Err UnknownRecord
-
--- a record; the first one begins the cup
-abbrev pub cup_record_taken : Option CupDraft → List (List ℕ) → Result CupProgress CupFault
-cup_record_taken None fields = then_taken cup_so_far (cup_taken fields)
-cup_record_taken (Some draft) fields = cup_later_taken draft fields
-
--- a record, if a line has one: a line of empty fields changes nothing
-abbrev pub cup_record_taken_if : Option CupDraft → Option (List (List ℕ))
-    → Result CupProgress CupFault
-cup_record_taken_if draft None = Ok (SoFar draft)
-cup_record_taken_if draft (Some fields) = cup_record_taken draft fields
 
 -- why a line that is no record is refused
 abbrev pub cup_refusal_of_no_record : Option CupDraft → CupFault
 cup_refusal_of_no_record None = NoCup
 cup_refusal_of_no_record (Some draft) = UnknownRecord
 
--- the content of a line: a CR in it makes it no record
+-- why an input that ends here is refused
+abbrev pub cup_fault_at_end : Option CupDraft → CupFault
+cup_fault_at_end None = NoCup
+cup_fault_at_end (Some draft) = NoSeason
+
+-- a cup's sheet
+abbrev pub cup_rules : SheetRules CupDraft Cup CupFault
+cup_rules =
+    record {
+      first = cup_taken;
+      later = cup_later_taken;
+      no_record = cup_refusal_of_no_record;
+      at_end = cup_fault_at_end;
+    }
+
+-- the content of a line
 abbrev pub cup_content_taken : Option CupDraft → List ℕ → Result CupProgress CupFault
-cup_content_taken draft content =
-    if has_return content then Err (cup_refusal_of_no_record draft)
-    else cup_record_taken_if draft (record_of content)
+cup_content_taken = content_taken_by cup_rules

@@ -15,6 +15,4 @@ pub mod KeyBounds
 pub mod CupAnswers
 -- What the functions promise each other and the crates above, and what holds of lots.
 pub mod CupDrafts
-pub mod CupCalls
-pub mod CupReads
 pub mod LotLaws

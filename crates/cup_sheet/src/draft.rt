@@ -5,19 +5,19 @@ ghost use Rattle.std.specs.Prelude.{option_and_then};
 ghost use Rattle.league_core.specs.declared.sheet.Sheet.{Sheet};
 ghost use Rattle.league_core.specs.game.Sheets.{is_club, is_name};
 ghost use Rattle.fixture_sheet.specs.Records.{club_named, has_name};
+ghost use Rattle.fixture_sheet.specs.inside.Calls.{Answers};
 ghost use Rattle.cup_sheet.specs.CupLimits.{least_groups};
 ghost use Rattle.cup_sheet.specs.CupRecords.{club_added_to, cup_begun, cup_of, fixture_added_to};
 ghost use Rattle.cup_sheet.specs.CupRecords.{group_added, groups_so_far, is_last_short};
 ghost use Rattle.cup_sheet.specs.CupRecords.{does_last, is_begun, is_last_without_matches};
 ghost use Rattle.cup_sheet.specs.CupRecords.{is_named_before, is_quota};
 ghost use Rattle.cup_sheet.specs.Cups.{IsCup};
-ghost use Rattle.cup_sheet.specs.CupCalls.{AnswersInCup};
 ghost use Rattle.cup_sheet.specs.CupDrafts.{IsCupDraft, IsHead, IsLastClub};
 
 use crate::cup::{Cup, CupDraft, CupHead};
-use crate::fault::{CupFault, CupRecordStop};
+use crate::fault::CupFault;
 use crate::group::{group_begun, is_named, is_named_in, with_club, with_fixture, with_group};
-use fixture_sheet::club_named;
+use fixture_sheet::{RecordStop, club_named};
 use league_core::{Fixture, Listing, OutOfMemory, Sheet};
 use std::alloc::Global;
 
@@ -85,15 +85,15 @@ pub(crate) fn add_group(
     alloc: Global,
     draft: CupDraft,
     name: &str,
-) -> Result<CupDraft, CupRecordStop>
+) -> Result<CupDraft, RecordStop<CupFault>>
     requires named { IsTrue (is_name name.now) }
     requires complete { is_last_short draft ≡ false }
     requires sound { IsCupDraft draft }
-    ensures answer { AnswersInCup (group_added draft name.now) result }
+    ensures answer { Answers (group_added draft name.now) result }
     ensures sound { IfOk result (λ more. IsCupDraft more) }
 {
     if MOST_GROUPS <= group_count(&draft) {
-        return Err(CupRecordStop::Fault(CupFault::TooMany));
+        return Err(RecordStop::Fault(CupFault::TooMany));
     }
     let CupDraft {
         head,
@@ -130,16 +130,16 @@ pub(crate) fn add_club(
     draft: CupDraft,
     name: &str,
     rank: u16,
-) -> Result<CupDraft, CupRecordStop>
+) -> Result<CupDraft, RecordStop<CupFault>>
     requires is { IsTrue (is_club (record { name = name.now; rank = rank })) }
     requires first { is_last_without_matches draft ≡ true }
     requires sound { IsCupDraft draft }
-    ensures answer { AnswersInCup
+    ensures answer { Answers
         (club_added_to draft draft.group (record { name = name.now; rank = rank })) result }
     ensures sound { IfOk result (λ more. IsCupDraft more) }
 {
     if is_named_before(&draft, name) {
-        return Err(CupRecordStop::Fault(CupFault::ClubTwice));
+        return Err(RecordStop::Fault(CupFault::ClubTwice));
     }
     let CupDraft {
         head,
@@ -147,10 +147,10 @@ pub(crate) fn add_club(
         group,
     } = draft;
     let Some(group) = group else {
-        return Err(CupRecordStop::Fault(CupFault::UnknownRecord));
+        return Err(RecordStop::Fault(CupFault::UnknownRecord));
     };
     if MOST_GROUP_CLUBS <= group.clubs.len() {
-        return Err(CupRecordStop::Fault(CupFault::TooMany));
+        return Err(RecordStop::Fault(CupFault::TooMany));
     }
     let group = Some(with_club(alloc, group, name, rank)?);
     Ok(CupDraft {
@@ -174,16 +174,19 @@ pub(crate) fn last_club_named(draft: &CupDraft, field: &[u8]) -> Option<u8>
 }
 
 /// Adds a fixture to the group begun last.
-pub(crate) fn add_fixture(draft: CupDraft, fixture: Fixture) -> Result<CupDraft, CupRecordStop>
+pub(crate) fn add_fixture(
+    draft: CupDraft,
+    fixture: Fixture,
+) -> Result<CupDraft, RecordStop<CupFault>>
     requires home { IsLastClub draft fixture.home }
     requires away { IsLastClub draft fixture.away }
     requires begun { is_begun draft ≡ true }
     requires sound { IsCupDraft draft }
-    ensures answer { AnswersInCup (fixture_added_to draft draft.group fixture) result }
+    ensures answer { Answers (fixture_added_to draft draft.group fixture) result }
     ensures sound { IfOk result (λ more. IsCupDraft more) }
 {
     if fixture.home == fixture.away {
-        return Err(CupRecordStop::Fault(CupFault::SelfMatch));
+        return Err(RecordStop::Fault(CupFault::SelfMatch));
     }
     let CupDraft {
         head,
@@ -191,10 +194,10 @@ pub(crate) fn add_fixture(draft: CupDraft, fixture: Fixture) -> Result<CupDraft,
         group,
     } = draft;
     let Some(group) = group else {
-        return Err(CupRecordStop::Fault(CupFault::UnknownRecord));
+        return Err(RecordStop::Fault(CupFault::UnknownRecord));
     };
     if MOST_GROUP_FIXTURES <= group.fixtures.len() {
-        return Err(CupRecordStop::Fault(CupFault::TooMany));
+        return Err(RecordStop::Fault(CupFault::TooMany));
     }
     let group = Some(with_fixture(group, fixture)?);
     Ok(CupDraft {

@@ -1,10 +1,9 @@
-//! Why a cup's record or sheet could not be read.
+//! Why a cup's sheet could not be read.
 
 ghost use Rattle.std.specs.Prelude.{◌≡◌};
 ghost use Rattle.cup_sheet.specs.CupFaults.{cup_code_of};
 
-use league_core::OutOfMemory;
-use port_core::ReadStop;
+use fixture_sheet::ReadingStop;
 use thiserror::Error;
 
 /// Why a cup's sheet is refused, in the order of the tests. It prints as its code.
@@ -71,29 +70,5 @@ impl CupFault {
     }
 }
 
-/// Why a record of a cup is not taken.
-#[derive(Clone, Copy, PartialEq, Eq, Debug)]
-pub enum CupRecordStop {
-    Fault(CupFault),
-    OutOfMemory,
-}
-
-impl From<OutOfMemory> for CupRecordStop {
-    ghost use Rattle.cup_sheet.specs.declared.fault.CupRecordStop.TheVariants.{OutOfMemory};
-
-    ghost from_gives = { λ _ stop. stop ≡ OutOfMemory };
-
-    fn from(_cause: OutOfMemory) -> CupRecordStop {
-        CupRecordStop::OutOfMemory
-    }
-}
-
 /// Why a cup is not given.
-#[derive(Clone, Copy, PartialEq, Eq, Debug)]
-pub enum CupStop {
-    /// The line of this number is refused; at the end of the input it is one more than the last.
-    Fault { number: u64, fault: CupFault },
-    /// The input stopped, in place of any test on that line.
-    Read(ReadStop),
-    OutOfMemory,
-}
+pub type CupStop = ReadingStop<CupFault>;

@@ -18,8 +18,7 @@ mod reader;
 mod record;
 
 pub use cup::{Cup, CupDraft, CupHead};
-pub use fault::{CupFault, CupRecordStop, CupStop};
+pub use fault::{CupFault, CupStop};
 pub use lot_laws::lots_are_those_of_the_groups;
 pub use question::{GroupKind, GroupReason};
-pub use reader::{cup_fault_at_end, read_cup};
-pub use record::{CupProgress, take_cup_content, take_cup_record};
+pub use reader::read_cup;

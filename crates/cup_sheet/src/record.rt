@@ -1,143 +1,112 @@
 //! What a record makes of the cup so far.
 
 ghost use Rattle.std.specs.Prelude.{◌≡◌, IfOk};
+ghost use Rattle.fixture_sheet.specs.inside.Calls.{Answers, KeepsLimits};
 ghost use Rattle.cup_sheet.specs.Cups.{IsCup};
-ghost use Rattle.cup_sheet.specs.CupRecords.{cup_club_taken, cup_content_taken, cup_later_taken};
-ghost use Rattle.cup_sheet.specs.CupRecords.{cup_match_taken, cup_record_taken, cup_season_taken};
-ghost use Rattle.cup_sheet.specs.CupRecords.{cup_refusal_of_no_record, cup_taken, group_taken};
-ghost use Rattle.cup_sheet.specs.CupRecords.{is_quota};
-ghost use Rattle.cup_sheet.specs.CupCalls.{AnswersInCup, KeepsLimits, as_cup_progress};
-ghost use Rattle.cup_sheet.specs.CupDrafts.{IsCupDraft, IsCupDraftIfAny};
+ghost use Rattle.cup_sheet.specs.CupRecords.{cup_club_taken, cup_fault_at_end, cup_later_taken};
+ghost use Rattle.cup_sheet.specs.CupRecords.{cup_match_taken, cup_refusal_of_no_record, cup_rules};
+ghost use Rattle.cup_sheet.specs.CupRecords.{cup_season_taken, cup_taken, group_taken, is_quota};
+ghost use Rattle.cup_sheet.specs.CupDrafts.{IsCupDraft};
 
 use crate::cup::{Cup, CupDraft, CupHead};
 use crate::draft::{
     add_club, add_fixture, add_group, begin, group_count, into_cup, is_begun, is_last_short,
     is_last_without_matches, last_club_named,
 };
-use crate::fault::{CupFault, CupRecordStop};
-use fixture_sheet::{Fields, FieldsStop, fields_of, name_of, number_within, number_written};
+use crate::fault::CupFault;
+use fixture_sheet::{
+    Fields, Progress, RecordStop, SheetSoFar, name_of, number_within, number_written, so_far,
+};
 use league_core::limits::{MOST_BUDGET, MOST_GOAL_LIMIT, MOST_RANK};
 use league_core::{Fixture, Name, OutOfMemory};
 use std::alloc::Global;
 
-/// What came of a record: the cup so far, none before its first record, or the whole cup.
-#[derive(Drop)]
-pub enum CupProgress {
-    SoFar(Option<CupDraft>),
-    Whole(Cup),
-}
+impl SheetSoFar for CupDraft {
+    type Whole = Cup;
 
-/// Takes the content of a line. A content of empty fields changes nothing. On a refusal, and if
-/// memory runs out, the cup so far is dropped.
-pub fn take_cup_content(
-    alloc: Global,
-    draft: Option<CupDraft>,
-    content: &[u8],
-) -> Result<CupProgress, CupRecordStop>
-    requires { IsCupDraftIfAny draft }
-    ensures answer { AnswersInCup (cup_content_taken draft content.now) result }
-    ensures limits { KeepsLimits result }
-{
-    match fields_of(alloc, content) {
-        Ok(Some(fields)) => take_cup_record(alloc, draft, &fields),
-        Ok(None) => Ok(CupProgress::SoFar(draft)),
-        Err(FieldsStop::InnerReturn) => { Err(CupRecordStop::Fault(refusal_of_no_record(&draft))) }
-        Err(FieldsStop::OutOfMemory) => Err(CupRecordStop::OutOfMemory),
-    }
-}
+    type Fault = CupFault;
 
-fn refusal_of_no_record(draft: &Option<CupDraft>) -> CupFault
-    ensures { result ≡ cup_refusal_of_no_record draft.now }
-{
-    match draft {
-        None => CupFault::NoCup,
-        Some(_) => CupFault::UnknownRecord,
-    }
-}
+    ghost rules = { cup_rules };
 
-/// Takes a record. Its first refusal is returned, in the order of the tests. On a refusal, and if
-/// memory runs out, the cup so far is dropped.
-pub fn take_cup_record(
-    alloc: Global,
-    draft: Option<CupDraft>,
-    fields: &Fields,
-) -> Result<CupProgress, CupRecordStop>
-    requires { IsCupDraftIfAny draft }
-    ensures answer { AnswersInCup (cup_record_taken draft fields.now) result }
-    ensures limits { KeepsLimits result }
-{
-    match draft {
-        None => so_far(cup_record(alloc, fields)),
-        Some(draft) => later_record(alloc, draft, fields),
-    }
-}
+    ghost is_sound = { IsCupDraft };
 
-fn so_far(draft: Result<CupDraft, CupRecordStop>) -> Result<CupProgress, CupRecordStop>
-    ensures { result ≡ as_cup_progress draft }
-{
-    match draft {
-        Ok(draft) => Ok(CupProgress::SoFar(Some(draft))),
-        Err(stop) => Err(stop),
-    }
-}
+    ghost is_whole = { IsCup };
 
-// A record after the first one.
-fn later_record(
-    alloc: Global,
-    draft: CupDraft,
-    fields: &Fields,
-) -> Result<CupProgress, CupRecordStop>
-    requires { IsCupDraft draft }
-    ensures answer { AnswersInCup (cup_later_taken draft fields.now) result }
-    ensures limits { KeepsLimits result }
-{
-    if fields.is_kind(b"group") {
-        so_far(group_record(alloc, draft, fields))
-    } else if fields.is_kind(b"club") {
-        so_far(club_record(alloc, draft, fields))
-    } else if fields.is_kind(b"match") {
-        so_far(match_record(draft, fields))
-    } else if fields.is_kind(b"season") {
-        Ok(CupProgress::Whole(season_record(draft, fields)?))
-    } else {
-        Err(CupRecordStop::Fault(CupFault::UnknownRecord))
+    // `cup,NAME,L,B,Q`.
+    fn first_record(alloc: Global, fields: &Fields) -> Result<CupDraft, RecordStop<CupFault>>
+        ensures answer { Answers (cup_taken fields.now) result }
+        ensures sound { IfOk result (λ draft. IsCupDraft draft) }
+    {
+        if !fields.is_kind(b"cup") {
+            return Err(RecordStop::Fault(CupFault::NoCup));
+        }
+        if fields.len() != 5 {
+            return Err(RecordStop::Fault(CupFault::WrongWidth));
+        }
+        let Some(name) = name_of(fields.at(1)) else {
+            return Err(RecordStop::Fault(CupFault::BadField));
+        };
+        let Some(goal_limit) = number_within(1, u32::from(MOST_GOAL_LIMIT), fields.at(2)) else {
+            return Err(RecordStop::Fault(CupFault::BadField));
+        };
+        let Some(budget) = number_within(1, MOST_BUDGET, fields.at(3)) else {
+            return Err(RecordStop::Fault(CupFault::BadField));
+        };
+        let Some(quota) = number_written(fields.at(4)) else {
+            return Err(RecordStop::Fault(CupFault::BadField));
+        };
+        let name = copied(alloc, name)?;
+        let goal_limit = goal_limit as u8;
+        Ok(begin(
+            alloc,
+            CupHead {
+                name,
+                goal_limit,
+                budget,
+                quota,
+            },
+        ))
     }
-}
 
-// `cup,NAME,L,B,Q`.
-fn cup_record(alloc: Global, fields: &Fields) -> Result<CupDraft, CupRecordStop>
-    ensures answer { AnswersInCup (cup_taken fields.now) result }
-    ensures sound { IfOk result (λ draft. IsCupDraft draft) }
-{
-    if !fields.is_kind(b"cup") {
-        return Err(CupRecordStop::Fault(CupFault::NoCup));
+    fn later_record(
+        self,
+        alloc: Global,
+        fields: &Fields,
+    ) -> Result<Progress<CupDraft, Cup>, RecordStop<CupFault>>
+        requires { IsCupDraft self }
+        ensures answer { Answers (cup_later_taken self fields.now) result }
+        ensures limits { KeepsLimits IsCupDraft IsCup result }
+    {
+        if fields.is_kind(b"group") {
+            so_far(group_record(alloc, self, fields))
+        } else if fields.is_kind(b"club") {
+            so_far(club_record(alloc, self, fields))
+        } else if fields.is_kind(b"match") {
+            so_far(match_record(self, fields))
+        } else if fields.is_kind(b"season") {
+            Ok(Progress::Whole(season_record(self, fields)?))
+        } else {
+            Err(RecordStop::Fault(CupFault::UnknownRecord))
+        }
     }
-    if fields.len() != 5 {
-        return Err(CupRecordStop::Fault(CupFault::WrongWidth));
+
+    fn refusal_of_no_record(draft: &Option<CupDraft>) -> CupFault
+        ensures { result ≡ cup_refusal_of_no_record draft.now }
+    {
+        match draft {
+            None => CupFault::NoCup,
+            Some(_) => CupFault::UnknownRecord,
+        }
     }
-    let Some(name) = name_of(fields.at(1)) else {
-        return Err(CupRecordStop::Fault(CupFault::BadField));
-    };
-    let Some(goal_limit) = number_within(1, u32::from(MOST_GOAL_LIMIT), fields.at(2)) else {
-        return Err(CupRecordStop::Fault(CupFault::BadField));
-    };
-    let Some(budget) = number_within(1, MOST_BUDGET, fields.at(3)) else {
-        return Err(CupRecordStop::Fault(CupFault::BadField));
-    };
-    let Some(quota) = number_written(fields.at(4)) else {
-        return Err(CupRecordStop::Fault(CupFault::BadField));
-    };
-    let name = copied(alloc, name)?;
-    let goal_limit = goal_limit as u8;
-    Ok(begin(
-        alloc,
-        CupHead {
-            name,
-            goal_limit,
-            budget,
-            quota,
-        },
-    ))
+
+    fn fault_at_end(draft: &Option<CupDraft>) -> CupFault
+        ensures { result ≡ cup_fault_at_end draft.now }
+    {
+        match draft {
+            None => CupFault::NoCup,
+            Some(_) => CupFault::NoSeason,
+        }
+    }
 }
 
 fn copied(alloc: Global, name: &str) -> Result<Name, OutOfMemory>
@@ -147,85 +116,93 @@ fn copied(alloc: Global, name: &str) -> Result<Name, OutOfMemory>
 }
 
 // `group,NAME`.
-fn group_record(alloc: Global, draft: CupDraft, fields: &Fields) -> Result<CupDraft, CupRecordStop>
+fn group_record(
+    alloc: Global,
+    draft: CupDraft,
+    fields: &Fields,
+) -> Result<CupDraft, RecordStop<CupFault>>
     requires { IsCupDraft draft }
-    ensures answer { AnswersInCup (group_taken draft fields.now) result }
+    ensures answer { Answers (group_taken draft fields.now) result }
     ensures sound { IfOk result (λ more. IsCupDraft more) }
 {
     if is_last_short(&draft) {
-        return Err(CupRecordStop::Fault(CupFault::TooFewClubs));
+        return Err(RecordStop::Fault(CupFault::TooFewClubs));
     }
     if fields.len() != 2 {
-        return Err(CupRecordStop::Fault(CupFault::WrongWidth));
+        return Err(RecordStop::Fault(CupFault::WrongWidth));
     }
     let Some(name) = name_of(fields.at(1)) else {
-        return Err(CupRecordStop::Fault(CupFault::BadField));
+        return Err(RecordStop::Fault(CupFault::BadField));
     };
     add_group(alloc, draft, name)
 }
 
 // `club,NAME,RANK`.
-fn club_record(alloc: Global, draft: CupDraft, fields: &Fields) -> Result<CupDraft, CupRecordStop>
+fn club_record(
+    alloc: Global,
+    draft: CupDraft,
+    fields: &Fields,
+) -> Result<CupDraft, RecordStop<CupFault>>
     requires { IsCupDraft draft }
-    ensures answer { AnswersInCup (cup_club_taken draft fields.now) result }
+    ensures answer { Answers (cup_club_taken draft fields.now) result }
     ensures sound { IfOk result (λ more. IsCupDraft more) }
 {
     if !is_last_without_matches(&draft) {
-        return Err(CupRecordStop::Fault(CupFault::UnknownRecord));
+        return Err(RecordStop::Fault(CupFault::UnknownRecord));
     }
     if fields.len() != 3 {
-        return Err(CupRecordStop::Fault(CupFault::WrongWidth));
+        return Err(RecordStop::Fault(CupFault::WrongWidth));
     }
     let Some(name) = name_of(fields.at(1)) else {
-        return Err(CupRecordStop::Fault(CupFault::BadField));
+        return Err(RecordStop::Fault(CupFault::BadField));
     };
     let Some(rank) = number_within(1, u32::from(MOST_RANK), fields.at(2)) else {
-        return Err(CupRecordStop::Fault(CupFault::BadField));
+        return Err(RecordStop::Fault(CupFault::BadField));
     };
     add_club(alloc, draft, name, rank as u16)
 }
 
 // `match,HOME,AWAY`.
-fn match_record(draft: CupDraft, fields: &Fields) -> Result<CupDraft, CupRecordStop>
+fn match_record(draft: CupDraft, fields: &Fields) -> Result<CupDraft, RecordStop<CupFault>>
     requires { IsCupDraft draft }
-    ensures answer { AnswersInCup (cup_match_taken draft fields.now) result }
+    ensures answer { Answers (cup_match_taken draft fields.now) result }
     ensures sound { IfOk result (λ more. IsCupDraft more) }
 {
     if !is_begun(&draft) {
-        return Err(CupRecordStop::Fault(CupFault::UnknownRecord));
+        return Err(RecordStop::Fault(CupFault::UnknownRecord));
     }
     if is_last_short(&draft) {
-        return Err(CupRecordStop::Fault(CupFault::TooFewClubs));
+        return Err(RecordStop::Fault(CupFault::TooFewClubs));
     }
     if fields.len() != 3 {
-        return Err(CupRecordStop::Fault(CupFault::WrongWidth));
+        return Err(RecordStop::Fault(CupFault::WrongWidth));
     }
     let Some(home) = last_club_named(&draft, fields.at(1)) else {
-        return Err(CupRecordStop::Fault(CupFault::UnknownClub));
+        return Err(RecordStop::Fault(CupFault::UnknownClub));
     };
     let Some(away) = last_club_named(&draft, fields.at(2)) else {
-        return Err(CupRecordStop::Fault(CupFault::UnknownClub));
+        return Err(RecordStop::Fault(CupFault::UnknownClub));
     };
     add_fixture(draft, Fixture { home, away })
 }
 
 // `season`.
-fn season_record(draft: CupDraft, fields: &Fields) -> Result<Cup, CupRecordStop>
+fn season_record(draft: CupDraft, fields: &Fields) -> Result<Cup, RecordStop<CupFault>>
     requires { IsCupDraft draft }
-    ensures answer { AnswersInCup (cup_season_taken draft fields.now) result }
+    ensures answer { Answers (cup_season_taken draft fields.now) result }
     ensures limits { IfOk result (λ cup. IsCup cup) }
 {
     if is_last_short(&draft) {
-        return Err(CupRecordStop::Fault(CupFault::TooFewClubs));
+        return Err(RecordStop::Fault(CupFault::TooFewClubs));
     }
     if fields.len() != 1 {
-        return Err(CupRecordStop::Fault(CupFault::WrongWidth));
+        return Err(RecordStop::Fault(CupFault::WrongWidth));
     }
     if group_count(&draft) < 2 {
-        return Err(CupRecordStop::Fault(CupFault::TooFewGroups));
+        return Err(RecordStop::Fault(CupFault::TooFewGroups));
     }
     if !is_quota(group_count(&draft), draft.head.quota) {
-        return Err(CupRecordStop::Fault(CupFault::QuotaRange));
+        return Err(RecordStop::Fault(CupFault::QuotaRange));
     }
     Ok(into_cup(draft)?)
 }

@@ -7,10 +7,9 @@ use Rattle.league_core.specs.game.Seasons.{AreEventsOf, IsEventOf}
 use Rattle.league_core.specs.game.Seasons.{unplayed_season}
 use Rattle.port_core.specs.Contents.{Contents}
 use Rattle.cup_sheet.specs.declared.cup.Cup.{Cup}
-use Rattle.cup_sheet.specs.declared.fault.CupStop.{CupStop}
 use Rattle.cup_sheet.specs.Cups.{IsCup}
 use Rattle.cup_sheet.specs.CupFeeds.{joint_sheet}
-use Rattle.cup_sheet.specs.CupReadings.{cup_reading_of}
+use Rattle.cup_sheet.specs.CupReadings.{CupStop, cup_reading_of}
 use Rattle.cup_feed.proofs.FeedLawLemmas.{results_each, seasons_each}
 use Rattle.run_ends.specs.declared.run_end.RunEnd.TheVariants.{Complete}
 use Rattle.run_ends.specs.InputEnds.{outcome_at_cup}

@@ -16,15 +16,15 @@ use Rattle.port_core.specs.Readers.{stream_of}
 use Rattle.port_core.specs.inside.ReaderCalls.{Passes, LeavesReader, PassesKnown, PassesTo}
 use Rattle.port_core.specs.inside.ReaderCalls.{given_by}
 use Rattle.fixture_sheet.specs.LastReads.{ReadsOnWay}
-use Rattle.fixture_sheet.specs.inside.Calls.{PassesUpTo}
+use Rattle.fixture_sheet.specs.inside.Calls.{CountsSheet, Leads, PassesUpTo, ReadsSheet}
+use Rattle.fixture_sheet.specs.inside.Calls.{ReadsSheetAs, sheet_answer_after}
+use Rattle.fixture_sheet.specs.inside.SheetReads.{LeadsToDraft, StopsAtSheet}
 use Rattle.fixture_sheet.proofs.LastReadLemmas.{passed-to-come}
 use Rattle.cup_sheet.specs.declared.cup.Cup.{Cup}
 use Rattle.cup_sheet.specs.declared.cup.CupDraft.{CupDraft}
-use Rattle.cup_sheet.specs.declared.fault.CupStop.{CupStop}
-use Rattle.cup_sheet.specs.declared.fault.CupStop.TheVariants as cup_stop
-use Rattle.cup_sheet.specs.CupCalls.{CountsCup, LeadsToCup, ReadsCup, ReadsCupAs, cup_answer_after}
-use Rattle.cup_sheet.specs.CupReads.{LeadsToCupDraft, StopsAtCup}
-use Rattle.cup_sheet.specs.CupReadings.{cup_reading_of}
+use Rattle.fixture_sheet.specs.declared.fault.ReadingStop.TheVariants as cup_stop
+use Rattle.cup_sheet.specs.CupRecords.{cup_rules}
+use Rattle.cup_sheet.specs.CupReadings.{CupStop, cup_reading_of}
 use Rattle.run_ends.specs.declared.status.Status.{Status}
 use Rattle.run_ends.specs.declared.status.Status.TheVariants.{ReadFault, OutOfMemory}
 use Rattle.run_ends.specs.declared.run_end.Cause.TheVariants as cause
@@ -61,7 +61,7 @@ module _ (IsAnswer : CupPlayed → List ℕ → Type 0) (answered : IsAnswered (
   way-cup : (input after : Option (List ℕ)) (told told' : Bool)
       (to : Position) (given : List (ℕ × List ℕ)) (cup : Cup) (old : Option (List ℕ))
       → PassesKnown start input told to after told' given
-      → ReadsCupAs (contents_after start input) (contents_after to after) (Ok cup)
+      → ReadsSheetAs cup_rules (contents_after start input) (contents_after to after) (Ok cup)
       → Path (cup_kind IsAnswer) input told after told' to (cup_course_from cup []) old old
   way-cup None after told told' to given cup old passed reads = tt
   way-cup (Some input) None told told' to given cup old passed reads = absurd passed
@@ -76,7 +76,7 @@ module _ (IsAnswer : CupPlayed → List ℕ → Type 0) (answered : IsAnswered (
       (to : Position) (given : List (ℕ × List ℕ)) (found : CupStop) (fault : Fault)
       (left old now : Option (List ℕ)) (status : Status)
       → PassesKnown start input told to after told' given
-      → ReadsCupAs (contents_after start input) (contents_after to after) (Err found)
+      → ReadsSheetAs cup_rules (contents_after start input) (contents_after to after) (Err found)
       → outcome_at_cup found ≡ Refused fault → FaultEnds fault old now status
       → Serves (cup_kind IsAnswer) input left told' old now status
   turn-no_cup None after told told' to given found fault left old now status passed reads is ends =
@@ -96,7 +96,7 @@ module _ (IsAnswer : CupPlayed → List ℕ → Type 0) (answered : IsAnswered (
       (given : List (ℕ × List ℕ)) (old : Option (List ℕ))
       → Passes start input told to (held ++ left) told' given
       → (draft : Option CupDraft)
-      → LeadsToCup (Some (contents_of input))
+      → Leads cup_rules (Some (contents_of input))
       (Some (contents_from to (lines_of (held ++ left)))) draft
       → HasNoLineFeed held
       → Serves (cup_kind IsAnswer) (Some input) (Some left) told' old old ReadFault
@@ -123,7 +123,8 @@ module _ (IsAnswer : CupPlayed → List ℕ → Type 0) (answered : IsAnswered (
       (old : Option (List ℕ))
       → PassesKnown start input told to (prepend_known held left) told' given
       → (draft : Option CupDraft)
-      → LeadsToCup (contents_after start input) (contents_after to (prepend_known held left)) draft
+      → Leads cup_rules (contents_after start input) (contents_after to (prepend_known held left))
+      draft
       → HasNoLineFeed held
       → Serves (cup_kind IsAnswer) input left told' old old ReadFault
   turn-fails_early None held left told told' to given old passed draft leads no_feed = tt
@@ -137,18 +138,18 @@ module _ (IsAnswer : CupPlayed → List ℕ → Type 0) (answered : IsAnswered (
       (fresh : reader ≡ fresh_reader) where
     -- what is read of the cup is read of the whole input
     fresh-reads : (after : Option Contents) (result : Result Cup CupStop)
-        → ReadsCupAs (contents_to_come reader input) after result
-        → ReadsCupAs (contents_after start input) after result
+        → ReadsSheetAs cup_rules (contents_to_come reader input) after result
+        → ReadsSheetAs cup_rules (contents_after start input) after result
     fresh-reads after result reads =
-        let P : Option Contents → Type 0 = λ before. ReadsCupAs before after result in
+        let P : Option Contents → Type 0 = λ before. ReadsSheetAs cup_rules before after result in
         subst P (fresh-contents reader input fresh) reads
 
     -- and so far
     fresh-leads : (after : Option Contents) (draft : Option CupDraft)
-        → LeadsToCup (contents_to_come reader input) after draft
-        → LeadsToCup (contents_after start input) after draft
+        → Leads cup_rules (contents_to_come reader input) after draft
+        → Leads cup_rules (contents_after start input) after draft
     fresh-leads after draft leads =
-        let P : Option Contents → Type 0 = λ before. LeadsToCup before after draft in
+        let P : Option Contents → Type 0 = λ before. Leads cup_rules before after draft in
         subst P (fresh-contents reader input fresh) leads
 
     -- ---- what came of the reading
@@ -156,22 +157,24 @@ module _ (IsAnswer : CupPlayed → List ℕ → Type 0) (answered : IsAnswered (
     -- a refusal, or a stop for good
     refused-serves : (found : CupStop) (fault : Fault) (old now : Option (List ℕ))
         (status : Status) → outcome_at_cup found ≡ Refused fault
-        → ReadsCupAs (contents_to_come reader input) (contents_to_come new left) (Err found)
-        → PassesUpTo reader new input left told told' (cup_answer_after {A = Cup} new (Err found))
+        → ReadsSheetAs cup_rules (contents_to_come reader input) (contents_to_come new left)
+        (Err found)
+        → PassesUpTo reader new input left told told' (sheet_answer_after {A = Cup} new (Err found))
         → FaultEnds fault old now status
         → Serves (cup_kind IsAnswer) input left told' old now status
     refused-serves found fault old now status is reads passes ends =
         let given : List (ℕ × List ℕ) =
-        passes.0 ++ given_by (cup_answer_after {A = Cup} new (Err found)) new.text in
+        passes.0 ++ given_by (sheet_answer_after {A = Cup} new (Err found)) new.text in
         turn-no_cup input (stream_of new left) told told' new.position given found fault left old
         now status (fresh-passes reader new input left told told' given fresh passes.1)
         (fresh-reads (contents_to_come new left) (Err found) reads) is ends
 
     -- what came in place of a cup
     pub cup-refuses : (found : CupStop) (old now : Option (List ℕ)) (status : Status)
-        → ReadsCup (contents_to_come reader input) (contents_to_come new left) (Err found)
-        → PassesUpTo reader new input left told told' (cup_answer_after {A = Cup} new (Err found))
-        → LeavesReader new left (cup_answer_after {A = Cup} new (Err found))
+        → ReadsSheet cup_rules (contents_to_come reader input) (contents_to_come new left)
+        (Err found)
+        → PassesUpTo reader new input left told told' (sheet_answer_after {A = Cup} new (Err found))
+        → LeavesReader new left (sheet_answer_after {A = Cup} new (Err found))
         → StopEnds (stop_of_cup found) old now status
         → Serves (cup_kind IsAnswer) input left told' old now status
     cup-refuses (cup_stop.Fault number fault) old now status reads passes leaves ends =
@@ -201,7 +204,7 @@ module _ (IsAnswer : CupPlayed → List ℕ → Type 0) (answered : IsAnswered (
 
     -- the cup, and the way to the feed after it
     pub cup-comes : (cup : Cup) (old : Option (List ℕ))
-        → ReadsCup (contents_to_come reader input) (contents_to_come new left) (Ok cup)
+        → ReadsSheet cup_rules (contents_to_come reader input) (contents_to_come new left) (Ok cup)
         → PassesUpTo reader new input left told told' (Ok (line.Text new.position.lines))
         → Path (cup_kind IsAnswer) input told (stream_of new left) told' new.position
         (cup_course_from cup []) old old
@@ -214,7 +217,7 @@ module _ (IsAnswer : CupPlayed → List ℕ → Type 0) (answered : IsAnswered (
 -- ---- the last read
 
 -- the way to a cup is on the course
-draft-course : (before after : Option Contents) → LeadsToCupDraft before after
+draft-course : (before after : Option Contents) → LeadsToDraft cup_rules before after
     → Stands LeadCup before after
 draft-course None after leads = tt
 draft-course (Some before) None leads = absurd (told-nothing leads.1.0 before leads.1.1)
@@ -223,7 +226,7 @@ draft-course (Some before) (Some after) leads =
 
 -- where a session stands after its cup
 cup-stands : (before after : Option Contents) (given : List (ℕ × List ℕ)) (cup : Cup)
-    → before ≡ option_map (with_lines given) after → ReadsCupAs before after (Ok cup)
+    → before ≡ option_map (with_lines given) after → ReadsSheetAs cup_rules before after (Ok cup)
     → Stands (λ taken. LeadToCupFeed taken cup []) before after
 cup-stands None after given cup is reads = tt
 cup-stands (Some before) None given cup is reads = absurd (told-nothing given before is)
@@ -236,7 +239,7 @@ module _ {S : Type 0} (left : S → Option (List ℕ)) (reads : S → List ℕ �
     (reader new : LineReaderView) (before after : S) (fresh : reader ≡ fresh_reader) where
   -- what came in place of a cup
   pub cup-last : (found : CupStop) (old now : Option (List ℕ)) (status : Status)
-      → StopsAtCup left reads reader new before after (Err found)
+      → StopsAtSheet cup_rules left reads reader new before after (Err found)
       → StopEnds (stop_of_cup found) old now status
       → StopsSession left reads LeadCup before after status
   cup-last (cup_stop.Read stop.ReadFault) old now status ways ends =
@@ -244,21 +247,24 @@ module _ {S : Type 0} (left : S → Option (List ℕ)) (reads : S → List ℕ �
       subst P (sym ends.0) tt
   cup-last found old now status ways ends =
       stops-any left reads LeadCup new before after status
-      (fresh-way left reads LeadCup LeadsToCupDraft reader new before after fresh draft-course ways)
+      (fresh-way left reads LeadCup (LeadsToDraft cup_rules) reader new before after fresh
+      draft-course ways)
 
   -- the cup
   pub cup-come : (x y : Bool) (given : List (ℕ × List ℕ)) (cup : Cup)
       → TakesInput reader new (left before) (left after)
       → PassesTo reader new (left before) (left after) x y given
-      → ReadsCupAs (contents_to_come reader (left before)) (contents_to_come new (left after))
+      → ReadsSheetAs cup_rules (contents_to_come reader (left before))
+      (contents_to_come new (left after))
       (Ok cup)
-      → ReadsOnWay left reads LeadsToCupDraft reader new before after
+      → ReadsOnWay left reads (LeadsToDraft cup_rules) reader new before after
       → HasCome left reads LeadCup before new after (λ taken. LeadToCupFeed taken cup [])
   cup-come x y given cup takes passes read ways =
       let P : LineReaderView → Type 0 =
       λ r. PassesTo r new (left before) (left after) x y given in
       let Q : LineReaderView → Type 0 =
-      λ r. ReadsCupAs (contents_to_come r (left before)) (contents_to_come new (left after))
+      λ r. ReadsSheetAs cup_rules (contents_to_come r (left before))
+      (contents_to_come new (left after))
       (Ok cup) in
       let R : LineReaderView → Type 0 = λ r. TakesInput r new (left before) (left after) in
       record {
@@ -268,7 +274,7 @@ module _ {S : Type 0} (left : S → Option (List ℕ)) (reads : S → List ℕ �
             (subst P fresh passes))
             (subst Q fresh read);
         takes = subst R fresh takes;
-        last = fresh-way left reads LeadCup LeadsToCupDraft reader new before after fresh
+        last = fresh-way left reads LeadCup (LeadsToDraft cup_rules) reader new before after fresh
             draft-course ways;
       }
 
@@ -276,7 +282,7 @@ module _ {S : Type 0} (left : S → Option (List ℕ)) (reads : S → List ℕ �
 
 -- after a stop in place of a cup
 pub cup-counts : (reads reads' writes writes' : ℕ) (found : CupStop) (status : Status)
-    → CountsCup {A = Cup} reads reads' (Err found)
+    → CountsSheet {A = Cup} reads reads' (Err found)
     → CountsStop (stop_of_cup found) writes writes' status
     → Counts reads reads' writes writes' status × MayEndSession status
 cup-counts reads reads' writes writes' (cup_stop.Read stop.ReadFault) status rose counts =

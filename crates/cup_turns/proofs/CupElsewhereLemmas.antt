@@ -7,12 +7,10 @@ use Rattle.cup_sheet.specs.declared.cup.CupDraft.{CupDraft}
 use Rattle.port_core.specs.declared.line.ReadStop.{ReadStop}
 use Rattle.port_core.specs.Contents.{Contents, with_lines}
 use Rattle.cup_sheet.specs.declared.fault.CupFault.{CupFault}
-use Rattle.cup_sheet.specs.declared.fault.CupStop.{CupStop}
-use Rattle.cup_sheet.specs.declared.record.CupProgress.{CupProgress}
-use Rattle.cup_sheet.specs.declared.record.CupProgress.TheVariants.{SoFar, Whole}
-use Rattle.cup_sheet.specs.CupRecords.{cup_content_taken}
-use Rattle.cup_sheet.specs.CupReadings.{CupReading, cup_reading_by, cup_reading_from}
-use Rattle.cup_sheet.specs.CupReadings.{cup_reading_of}
+use Rattle.fixture_sheet.specs.declared.progress.Progress.TheVariants.{SoFar, Whole}
+use Rattle.fixture_sheet.specs.Readings.{reading_by}
+use Rattle.cup_sheet.specs.CupRecords.{CupProgress, cup_content_taken}
+use Rattle.cup_sheet.specs.CupReadings.{CupReading, CupStop, cup_reading_from, cup_reading_of}
 use Rattle.league_core.proofs.plain.Parts.{none-left}
 use Rattle.run_ends.proofs.StandLemmas.{known}
 
@@ -28,7 +26,7 @@ cup-by_shorter : (number : ℕ) (lines : List (ℕ × List ℕ)) (ending : Resul
     → ((draft : Option CupDraft) → onward draft ≡ cup_read_up_to cup rest
     → length rest.lines < length lines)
     → (found : Result CupProgress CupFault)
-    → cup_reading_by number (record { lines = lines; ending = ending }) onward found
+    → reading_by number (record { lines = lines; ending = ending }) onward found
     ≡ cup_read_up_to cup rest
     → length rest.lines < suc (length lines)
 cup-by_shorter number lines ending onward cup rest behind (Ok (SoFar draft)) is =
@@ -59,8 +57,8 @@ by_elsewhere : (number : ℕ) (given : List (ℕ × List ℕ)) (there rest : Con
     → ((draft : Option CupDraft) → onward draft ≡ cup_read_up_to cup there
     → onward' draft ≡ cup_read_up_to cup rest)
     → (found : Result CupProgress CupFault)
-    → cup_reading_by number (with_lines given there) onward found ≡ cup_read_up_to cup there
-    → cup_reading_by number (with_lines given rest) onward' found ≡ cup_read_up_to cup rest
+    → reading_by number (with_lines given there) onward found ≡ cup_read_up_to cup there
+    → reading_by number (with_lines given rest) onward' found ≡ cup_read_up_to cup rest
 by_elsewhere number given there rest cup onward onward' behind (Ok (SoFar draft)) is =
     behind draft is
 by_elsewhere number given there rest cup onward onward' behind (Ok (Whole whole)) is =

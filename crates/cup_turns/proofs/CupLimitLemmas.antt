@@ -18,28 +18,26 @@ use Rattle.port_core.specs.declared.line.ReadStop.{ReadStop}
 use Rattle.port_core.specs.Contents.{Contents}
 use Rattle.fixture_sheet.specs.Fields.{field, has_return, record_of}
 use Rattle.fixture_sheet.specs.Texts.{name_of, number_within, number_written}
+use Rattle.fixture_sheet.specs.Readings.{and_then, reading_by, record_taken_if, so_far, whole}
 use Rattle.fixture_sheet.specs.Records.{club_of, fixture_of}
 use Rattle.cup_sheet.specs.declared.cup.Cup.{Cup}
 use Rattle.cup_sheet.specs.declared.cup.CupHead.{CupHead}
 use Rattle.cup_sheet.specs.declared.cup.CupDraft.{CupDraft}
 use Rattle.cup_sheet.specs.declared.fault.CupFault.{CupFault}
 use Rattle.cup_sheet.specs.declared.fault.CupFault.TheVariants as fault
-use Rattle.cup_sheet.specs.declared.fault.CupStop.{CupStop}
-use Rattle.cup_sheet.specs.declared.record.CupProgress.{CupProgress}
-use Rattle.cup_sheet.specs.declared.record.CupProgress.TheVariants.{SoFar, Whole}
+use Rattle.fixture_sheet.specs.declared.progress.Progress.TheVariants.{SoFar, Whole}
 use Rattle.cup_sheet.specs.CupLimits.{least_groups, most_groups, most_group_clubs}
 use Rattle.cup_sheet.specs.CupLimits.{most_group_fixtures}
 use Rattle.cup_sheet.specs.Cups.{IsCup, clubs_of_groups}
 use Rattle.cup_sheet.specs.CupDrafts.{IsCupDraft, IsHead}
 use Rattle.cup_sheet.specs.CupRecords.{club_added_to, cup_begun, cup_club_taken, cup_content_taken}
 use Rattle.cup_sheet.specs.CupRecords.{cup_head_of, cup_later_taken, cup_match_taken, cup_of}
-use Rattle.cup_sheet.specs.CupRecords.{cup_record_taken_if, cup_refusal_of_no_record}
-use Rattle.cup_sheet.specs.CupRecords.{cup_season_taken}
-use Rattle.cup_sheet.specs.CupRecords.{cup_so_far, cup_taken, fixture_added_to, group_added}
+use Rattle.cup_sheet.specs.CupRecords.{CupProgress, cup_refusal_of_no_record, cup_rules}
+use Rattle.cup_sheet.specs.CupRecords.{cup_season_taken, cup_taken, fixture_added_to, group_added}
 use Rattle.cup_sheet.specs.CupRecords.{group_taken, groups_so_far, is_begun, is_last_short}
 use Rattle.cup_sheet.specs.CupRecords.{is_last_without_matches, is_named_before, is_quota}
-use Rattle.cup_sheet.specs.CupRecords.{last_fixture_of, then_taken, whole_cup, with_fixture}
-use Rattle.cup_sheet.specs.CupReadings.{cup_reading_by, cup_reading_from, cup_reading_of}
+use Rattle.cup_sheet.specs.CupRecords.{last_fixture_of, with_fixture}
+use Rattle.cup_sheet.specs.CupReadings.{CupStop, cup_reading_from, cup_reading_of}
 use Rattle.cup_sheet.proofs.CupDraftLemmas.{club-keeps-cup, cup-is-whole, group-keeps}
 use Rattle.run_ends.proofs.FieldLemmas.{Anything, Fits, Has, IsBetween, IsClub, IsMatchOf, IsNamed}
 use Rattle.run_ends.proofs.FieldLemmas.{club-has, fits-either, fits-ok_or, fits-unless, fixture-has}
@@ -49,7 +47,7 @@ use Rattle.run_ends.proofs.FieldLemmas.{number-has}
 -- what is made of a value that is not refused
 taken-then : {A B : Type 0} (P : A → Type 0) (Q : B → Type 0) (next : A → Result B CupFault)
     (found : Result A CupFault) → Fits P found → ((value : A) → P value → Fits Q (next value))
-    → Fits Q (then_taken next found)
+    → Fits Q (and_then next found)
 taken-then P Q next (Ok value) fits behind = behind value fits
 taken-then P Q next (Err why) fits behind = tt
 
@@ -258,28 +256,28 @@ later-fits : (draft : CupDraft) (fields : List (List ℕ)) → IsCupDraft draft
     → Fits IsKept (cup_later_taken draft fields)
 later-fits draft fields is =
     fits-either IsKept (bytes_eq (field 0 fields) (codes "group"))
-    (then_taken cup_so_far (group_taken draft fields)) _
-    (taken-then IsCupDraft IsKept cup_so_far (group_taken draft fields)
+    (and_then so_far (group_taken draft fields)) _
+    (taken-then IsCupDraft IsKept so_far (group_taken draft fields)
     (group-fits draft fields is) (λ next keeps. keeps))
     (fits-either IsKept (bytes_eq (field 0 fields) (codes "club"))
-    (then_taken cup_so_far (cup_club_taken draft fields)) _
-    (taken-then IsCupDraft IsKept cup_so_far (cup_club_taken draft fields)
+    (and_then so_far (cup_club_taken draft fields)) _
+    (taken-then IsCupDraft IsKept so_far (cup_club_taken draft fields)
     (club-fits draft fields is) (λ next keeps. keeps))
     (fits-either IsKept (bytes_eq (field 0 fields) (codes "match"))
-    (then_taken cup_so_far (cup_match_taken draft fields)) _
-    (taken-then IsCupDraft IsKept cup_so_far (cup_match_taken draft fields)
+    (and_then so_far (cup_match_taken draft fields)) _
+    (taken-then IsCupDraft IsKept so_far (cup_match_taken draft fields)
     (match-fits draft fields is) (λ next keeps. keeps))
     (fits-either IsKept (bytes_eq (field 0 fields) (codes "season"))
-    (then_taken whole_cup (cup_season_taken draft fields)) (Err fault.UnknownRecord)
-    (taken-then IsCup IsKept whole_cup (cup_season_taken draft fields)
+    (and_then whole (cup_season_taken draft fields)) (Err fault.UnknownRecord)
+    (taken-then IsCup IsKept whole (cup_season_taken draft fields)
     (season-fits draft fields is) (λ next keeps. keeps))
     tt)))
 
 record-fits : (draft : Option CupDraft) (found : Option (List (List ℕ))) → Has IsCupDraft draft
-    → Fits IsKept (cup_record_taken_if draft found)
+    → Fits IsKept (record_taken_if cup_rules draft found)
 record-fits draft None is = is
 record-fits None (Some fields) is =
-    taken-then IsCupDraft IsKept cup_so_far (cup_taken fields) (cup-fits fields)
+    taken-then IsCupDraft IsKept so_far (cup_taken fields) (cup-fits fields)
     (λ next begun. begun)
 record-fits (Some draft) (Some fields) is = later-fits draft fields is
 
@@ -287,7 +285,7 @@ content-fits : (draft : Option CupDraft) (content : List ℕ) → Has IsCupDraft
     → Fits IsKept (cup_content_taken draft content)
 content-fits draft content is =
     fits-unless IsKept (has_return content) (cup_refusal_of_no_record draft)
-    (cup_record_taken_if draft (record_of content))
+    (record_taken_if cup_rules draft (record_of content))
     (λ none. record-fits draft (record_of content) is)
 
 -- ---- all of the contents
@@ -308,7 +306,7 @@ lines-give (line ∷ lines) ending draft is =
     by_line : ((next : Option CupDraft) → Has IsCupDraft next
         → GivesCup (cup_reading_from lines ending next).gives)
         → (found : Result CupProgress CupFault) → Fits IsKept found
-        → GivesCup (cup_reading_by line.0 (record { lines = lines; ending = ending })
+        → GivesCup (reading_by line.0 (record { lines = lines; ending = ending })
         (cup_reading_from lines ending) found).gives
     by_line behind (Ok (SoFar next)) fits = behind next fits
     by_line behind (Ok (Whole cup)) fits = fits

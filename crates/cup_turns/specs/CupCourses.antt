@@ -8,10 +8,9 @@ use Rattle.league_core.specs.game.Seasons.{epoch_of, season_after}
 use Rattle.port_core.specs.Contents.{Contents}
 use Rattle.result_log.specs.Feeds.{entry_in}
 use Rattle.cup_sheet.specs.declared.cup.Cup.{Cup}
-use Rattle.cup_sheet.specs.declared.fault.CupStop.{CupStop}
 use Rattle.cup_sheet.specs.Cups.{AreSeasonsOf, IsCup}
 use Rattle.cup_sheet.specs.CupFeeds.{joint_sheet, seasons_after}
-use Rattle.cup_sheet.specs.CupReadings.{CupReading, cup_reading_of}
+use Rattle.cup_sheet.specs.CupReadings.{CupReading, CupStop, cup_reading_of}
 use Rattle.run_ends.specs.declared.run_end.RunEnd.TheVariants.{Complete}
 use Rattle.run_ends.specs.InputEnds.{outcome_at_cup}
 use Rattle.run_ends.specs.Courses.{CourseOf, FeedKind, course_ended, feed_course, nothing_after}

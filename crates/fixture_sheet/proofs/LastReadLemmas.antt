@@ -2,7 +2,6 @@
 use Rattle.std.proofs.Common.{◌≡◌, ℕ, Bool, List, ◌++◌, Option, None, Some, option_map, Err}
 use Rattle.std.proofs.Common.{refl, sym, ap, subst, ◌∙◌, inl, inr}
 use Rattle.std.specs.Io.KnownBytes.{prepend_known}
-use Rattle.league_core.specs.declared.sheet.Sheet.{Sheet}
 use Rattle.port_core.specs.declared.line.ReadStop.{ReadStop}
 use Rattle.port_core.specs.declared.line.ReadStop.TheVariants.{ReadFault, LineTooLong}
 use Rattle.port_core.specs.declared.line.ReadStop.TheVariants.{InputTooLong}
@@ -11,11 +10,13 @@ use Rattle.port_core.specs.Contents.{Contents, contents_from, with_lines}
 use Rattle.port_core.specs.Readers.{LineReaderView, TakesInput, contents_to_come}
 use Rattle.port_core.specs.inside.ReaderCalls.{PassesTo, ReadsInNeed, StopsAtAnswer}
 use Rattle.port_core.proofs.TakingLemmas.{TakesInput-more}
-use Rattle.fixture_sheet.specs.declared.fault.SheetStop.{SheetStop}
-use Rattle.fixture_sheet.specs.declared.fault.SheetStop.TheVariants.{Fault, Read, OutOfMemory}
+use Rattle.fixture_sheet.specs.declared.fault.ReadingStop.{ReadingStop}
+use Rattle.fixture_sheet.specs.declared.fault.ReadingStop.TheVariants.{Fault, Read, OutOfMemory}
+use Rattle.fixture_sheet.specs.declared.progress.Progress.{Progress}
 use Rattle.fixture_sheet.specs.inside.Calls.{Leads}
 use Rattle.fixture_sheet.specs.LastReads.{ReadsOnWay}
-use Rattle.fixture_sheet.specs.inside.SheetReads.{LeadsToDraft, StopsAtSheet, StopsAtSheetLine}
+use Rattle.fixture_sheet.specs.Readings.{SheetRules}
+use Rattle.fixture_sheet.specs.inside.SheetReads.{LeadsToDraft, StopsAtLine, StopsAtSheet}
 
 -- ---- ways
 
@@ -90,39 +91,42 @@ module _ {S : Type 0} (left : S → Option (List ℕ)) (reads : S → List ℕ �
         ]
       ]
 
-  -- ---- of a sheet
+-- ---- of a sheet
 
+module _ {S D W F : Type 0} (rules : SheetRules D W F) (left : S → Option (List ℕ))
+    (reads : S → List ℕ → S → Type 0) where
   -- an answer of the reader is a record's, or a stop
   pub line-stops : (old new : LineReaderView) (before after : S) (stop : ReadStop)
       → StopsAtAnswer left reads old new before after (Err stop)
-      → StopsAtSheetLine left reads old new before after (Err (Read stop))
+      → StopsAtLine {A = Progress D W} {F = F} left reads old new before after (Err (Read stop))
   line-stops old new before after ReadFault stops = tt
   line-stops old new before after (LineTooLong number) stops = stops
   line-stops old new before after (InputTooLong number) stops = stops
 
   -- one record more on the way to a sheet
-  pub sheet-further : (a b c : LineReaderView) (first second third : S) (draft : Option Sheet)
-      → Leads (contents_to_come a (left first)) (contents_to_come b (left second)) draft
+  pub sheet-further : (a b c : LineReaderView) (first second third : S) (draft : Option D)
+      → Leads rules (contents_to_come a (left first)) (contents_to_come b (left second)) draft
       → TakesInput a b (left first) (left second)
-      → ReadsOnWay left reads LeadsToDraft a b first second
+      → ReadsOnWay left reads (LeadsToDraft rules) a b first second
       → ReadsInNeed left reads b c second third
-      → ReadsOnWay left reads LeadsToDraft a c first third
+      → ReadsOnWay left reads (LeadsToDraft rules) a c first third
   sheet-further a b c first second third draft leads takes one two =
-      way-more LeadsToDraft (λ start then. start ≡ then) a b c first second third
+      way-more left reads (LeadsToDraft rules) (λ start then. start ≡ then) a b c first second
+      third
       (λ then same.
       let P : Option Contents → Type 0 =
-      λ told. Leads (contents_to_come a (left first)) told draft in
+      λ told. Leads rules (contents_to_come a (left first)) told draft in
       (draft, subst P same leads))
-      takes one (way-need b c second third two)
+      takes one (way-need left reads b c second third two)
 
   -- the sheet, or what comes in its place, after them
-  pub sheet-stops : (a b c : LineReaderView) (first second third : S) (draft : Option Sheet)
-      (stop : SheetStop)
-      → Leads (contents_to_come a (left first)) (contents_to_come b (left second)) draft
+  pub sheet-stops : (a b c : LineReaderView) (first second third : S) (draft : Option D)
+      (stop : ReadingStop F)
+      → Leads rules (contents_to_come a (left first)) (contents_to_come b (left second)) draft
       → TakesInput a b (left first) (left second)
-      → ReadsOnWay left reads LeadsToDraft a b first second
-      → StopsAtSheetLine left reads b c second third (Err stop)
-      → StopsAtSheet left reads a c first third (Err stop)
+      → ReadsOnWay left reads (LeadsToDraft rules) a b first second
+      → StopsAtLine {A = Progress D W} left reads b c second third (Err stop)
+      → StopsAtSheet rules left reads a c first third (Err stop)
   sheet-stops a b c first second third draft (Fault number fault) leads takes one two =
       sheet-further a b c first second third draft leads takes one two
   sheet-stops a b c first second third draft (Read ReadFault) leads takes one two = tt

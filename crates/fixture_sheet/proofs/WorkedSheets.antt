@@ -9,8 +9,8 @@ use Rattle.league_core.specs.declared.sheet.Sheet.{Sheet}
 use Rattle.league_core.specs.declared.sheet.Order.TheVariants.{HeadFirst}
 use Rattle.fixture_sheet.specs.declared.fault.SheetFault.TheVariants.{NoLeague, LineRange, BadField}
 use Rattle.fixture_sheet.specs.declared.fault.SheetFault.TheVariants.{UnknownClub, TooFewClubs}
-use Rattle.fixture_sheet.specs.declared.fault.SheetStop.{SheetStop}
-use Rattle.fixture_sheet.specs.declared.fault.SheetStop.TheVariants.{Fault}
+use Rattle.fixture_sheet.specs.Sheets.{SheetStop}
+use Rattle.fixture_sheet.specs.declared.fault.ReadingStop.TheVariants.{Fault}
 use Rattle.fixture_sheet.specs.Sheets.{sheet_reading_of}
 
 -- these lines with their numbers

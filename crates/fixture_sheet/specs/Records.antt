@@ -20,20 +20,15 @@ use Rattle.fixture_sheet.specs.declared.fault.SheetFault.TheVariants.{UnknownClu
 use Rattle.fixture_sheet.specs.declared.fault.SheetFault.TheVariants.{LineRange, TooMany}
 use Rattle.fixture_sheet.specs.declared.fault.SheetFault.TheVariants.{TooFewClubs, UnknownRecord}
 use Rattle.fixture_sheet.specs.declared.fault.SheetFault.TheVariants.{WrongWidth, LineTwice}
-use Rattle.fixture_sheet.specs.declared.record.Progress.{Progress}
-use Rattle.fixture_sheet.specs.declared.record.Progress.TheVariants.{SoFar, Whole}
-use Rattle.fixture_sheet.specs.Fields.{has_return, record_of, field}
+use Rattle.fixture_sheet.specs.declared.fault.SheetFault.TheVariants.{NoSeason}
+use Rattle.fixture_sheet.specs.declared.progress.Progress.{Progress}
+use Rattle.fixture_sheet.specs.Fields.{field}
+use Rattle.fixture_sheet.specs.Readings.{SheetRules, and_then, content_taken_by, so_far, whole}
 use Rattle.fixture_sheet.specs.Texts.{number_written, number_within, text_of, name_of}
 
 -- the clubs' names, in the order of the sheet
 abbrev pub names_of : Sheet → List (List ℕ)
 names_of sheet = map (λ (club : Club). club.name) sheet.clubs
-
--- a value, and what is made of it; a refusal stays
-abbrev pub and_then : {A B : Type 0} → (A → Result B SheetFault) → Result A SheetFault
-    → Result B SheetFault
-and_then next (Ok value) = next value
-and_then next (Err fault) = Err fault
 
 -- ---- league,NAME,L or league,NAME,L,B or league,NAME,L,B,ORDER
 
@@ -177,16 +172,12 @@ season_taken sheet fields =
 
 -- ---- any record
 
--- the reading goes on with this sheet
-abbrev pub so_far : Sheet → Result Progress SheetFault
-so_far sheet = Ok (SoFar (Some sheet))
-
--- the reading ends with this sheet
-abbrev pub whole : Sheet → Result Progress SheetFault
-whole sheet = Ok (Whole sheet)
+-- what came of a record of a league
+abbrev pub SheetProgress : Type 0
+SheetProgress = Progress Sheet Sheet
 
 -- a record after the first one, by its first field
-abbrev pub later_taken : Sheet → List (List ℕ) → Result Progress SheetFault
+abbrev pub later_taken : Sheet → List (List ℕ) → Result SheetProgress SheetFault
 later_taken sheet fields =
     if bytes_eq (field 0 fields) (codes "club") then and_then so_far (club_taken sheet fields)
     else if bytes_eq (field 0 fields) (codes "match") then and_then so_far (match_taken sheet
@@ -196,23 +187,26 @@ later_taken sheet fields =
     fields)
     else Err UnknownRecord
 
--- a record; the first one begins the sheet
-abbrev pub record_taken : Option Sheet → List (List ℕ) → Result Progress SheetFault
-record_taken None fields = and_then so_far (league_taken fields)
-record_taken (Some sheet) fields = later_taken sheet fields
-
--- a record, if a line has one: a line of empty fields changes nothing
-abbrev pub record_taken_if : Option Sheet → Option (List (List ℕ)) → Result Progress SheetFault
-record_taken_if draft None = Ok (SoFar draft)
-record_taken_if draft (Some fields) = record_taken draft fields
-
 -- why a line that is no record is refused
 abbrev pub refusal_of_no_record : Option Sheet → SheetFault
 refusal_of_no_record None = NoLeague
 refusal_of_no_record (Some sheet) = UnknownRecord
 
--- the content of a line: a CR in it makes it no record
-abbrev pub content_taken : Option Sheet → List ℕ → Result Progress SheetFault
-content_taken draft content =
-    if has_return content then Err (refusal_of_no_record draft)
-    else record_taken_if draft (record_of content)
+-- why an input that ends here is refused
+abbrev pub fault_at_end : Option Sheet → SheetFault
+fault_at_end None = NoLeague
+fault_at_end (Some sheet) = NoSeason
+
+-- a league's sheet
+abbrev pub sheet_rules : SheetRules Sheet Sheet SheetFault
+sheet_rules =
+    record {
+      first = league_taken;
+      later = later_taken;
+      no_record = refusal_of_no_record;
+      at_end = fault_at_end;
+    }
+
+-- the content of a line
+abbrev pub content_taken : Option Sheet → List ℕ → Result SheetProgress SheetFault
+content_taken = content_taken_by sheet_rules

@@ -1,4 +1,4 @@
-//! The sheet so far.
+//! A league's sheet so far.
 
 ghost use Rattle.std.specs.Prelude.{◌≡◌, ◌≤◌, ◌<◌, ◌==◌, ◌∷◌, ◌++◌, [], false, IfOk, IfSome};
 ghost use Rattle.std.specs.Prelude.{IsTrue, length};
@@ -86,7 +86,12 @@ impl Draft {
     }
 
     /// Adds a club.
-    pub(crate) fn add_club(self, alloc: Global, name: &str, rank: u16) -> Result<Draft, RecordStop>
+    pub(crate) fn add_club(
+        self,
+        alloc: Global,
+        name: &str,
+        rank: u16,
+    ) -> Result<Draft, RecordStop<SheetFault>>
         requires is { IsTrue (is_club (record { name = name.now; rank = rank })) }
         requires first { is_past_clubs self ≡ false }
         ensures { Answers (club_added self (record { name = name.now; rank = rank })) result }
@@ -115,7 +120,7 @@ impl Draft {
     }
 
     /// Adds a fixture.
-    pub(crate) fn add_fixture(self, fixture: Fixture) -> Result<Draft, RecordStop>
+    pub(crate) fn add_fixture(self, fixture: Fixture) -> Result<Draft, RecordStop<SheetFault>>
         requires home { fixture.home < length self.clubs }
         requires away { fixture.away < length self.clubs }
         ensures { Answers (fixture_added self fixture) result }
@@ -141,7 +146,7 @@ impl Draft {
     }
 
     /// Adds a line.
-    pub(crate) fn add_line(self, line: u32) -> Result<Draft, RecordStop>
+    pub(crate) fn add_line(self, line: u32) -> Result<Draft, RecordStop<SheetFault>>
         ensures { Answers (line_added self line) result }
     {
         if !is_line(self.sheet.clubs.len(), line) {

@@ -90,26 +90,29 @@ impl From<OutOfMemory> for FieldsStop {
 
 /// Why a record is not taken.
 #[derive(Clone, Copy, PartialEq, Eq, Debug)]
-pub enum RecordStop {
-    Fault(SheetFault),
+pub enum RecordStop<F> {
+    Fault(F),
     OutOfMemory,
 }
 
-impl From<OutOfMemory> for RecordStop {
+impl<F> From<OutOfMemory> for RecordStop<F> {
     ghost use Rattle.fixture_sheet.specs.declared.fault.RecordStop.TheVariants.{OutOfMemory};
 
     ghost from_gives = { λ _ stop. stop ≡ OutOfMemory };
 
-    fn from(_cause: OutOfMemory) -> RecordStop {
+    fn from(_cause: OutOfMemory) -> RecordStop<F> {
         RecordStop::OutOfMemory
     }
 }
 
-/// Why a sheet is not given.
+/// Why a league's sheet is not given.
+pub type SheetStop = ReadingStop<SheetFault>;
+
+/// Why a sheet, of whatever kind, is not given.
 #[derive(Clone, Copy, PartialEq, Eq, Debug)]
-pub enum SheetStop {
+pub enum ReadingStop<F> {
     /// The line of this number is refused; at the end of the input it is one more than the last.
-    Fault { number: u64, fault: SheetFault },
+    Fault { number: u64, fault: F },
     /// The input stopped, in place of any test on that line.
     Read(ReadStop),
     OutOfMemory,

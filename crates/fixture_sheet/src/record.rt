@@ -1,123 +1,98 @@
-//! What a record makes of the sheet so far.
+//! What a record makes of a league's sheet so far.
 
 ghost use Rattle.std.specs.Prelude.{◌≡◌, ◌≤◌, IfOk, IfSome};
 ghost use Rattle.league_core.specs.game.Limits.{most_budget};
 ghost use Rattle.league_core.specs.game.Sheets.{IsWithinLimits};
-ghost use Rattle.fixture_sheet.specs.inside.Calls.{Answers, GivesSheet, as_progress};
-ghost use Rattle.fixture_sheet.specs.Records.{budget_of, club_taken, content_taken, later_taken};
-ghost use Rattle.fixture_sheet.specs.Records.{league_taken, line_taken, match_taken};
-ghost use Rattle.fixture_sheet.specs.Records.{refusal_of_no_record};
-ghost use Rattle.fixture_sheet.specs.Records.{order_in, record_taken, season_taken};
+ghost use Rattle.fixture_sheet.specs.inside.Calls.{Answers, KeepsLimits};
+ghost use Rattle.fixture_sheet.specs.Records.{budget_of, club_taken, fault_at_end, later_taken};
+ghost use Rattle.fixture_sheet.specs.Records.{league_taken, line_taken, match_taken, order_in};
+ghost use Rattle.fixture_sheet.specs.Records.{refusal_of_no_record, season_taken, sheet_rules};
 
 use crate::draft::Draft;
-use crate::fault::{FieldsStop, RecordStop, SheetFault};
-use crate::fields::{Fields, fields_of};
+use crate::fault::{RecordStop, SheetFault};
+use crate::fields::Fields;
 use crate::name::name_of;
 use crate::number::{number_within, number_written};
+use crate::progress::{Progress, SheetSoFar, so_far};
 use league_core::limits::{MOST_BUDGET, MOST_GOAL_LIMIT, MOST_RANK};
 use league_core::{Fixture, Order, Sheet};
 use std::alloc::Global;
 
-/// What came of a record: the sheet so far, none before its first record, or the whole sheet.
-#[derive(Drop)]
-pub enum Progress {
-    SoFar(Option<Draft>),
-    Whole(Sheet),
-}
+impl SheetSoFar for Draft {
+    type Whole = Sheet;
 
-/// Takes the content of a line. A content of empty fields changes nothing. On a refusal, and if
-/// memory runs out, the sheet so far is dropped.
-pub fn take_content(
-    alloc: Global,
-    draft: Option<Draft>,
-    content: &[u8],
-) -> Result<Progress, RecordStop>
-    ensures answer { Answers (content_taken draft content.now) result }
-    ensures limits { GivesSheet result }
-{
-    match fields_of(alloc, content) {
-        Ok(Some(fields)) => take_record(alloc, draft, &fields),
-        Ok(None) => Ok(Progress::SoFar(draft)),
-        Err(FieldsStop::InnerReturn) => Err(RecordStop::Fault(refusal_of_no_record(&draft))),
-        Err(FieldsStop::OutOfMemory) => Err(RecordStop::OutOfMemory),
-    }
-}
+    type Fault = SheetFault;
 
-fn refusal_of_no_record(draft: &Option<Draft>) -> SheetFault
-    ensures { result ≡ refusal_of_no_record draft.now }
-{
-    match draft {
-        None => SheetFault::NoLeague,
-        Some(_) => SheetFault::UnknownRecord,
-    }
-}
+    ghost rules = { sheet_rules };
 
-/// Takes a record. Its first refusal is returned, in the order of the tests. On a refusal, and if
-/// memory runs out, the sheet so far is dropped.
-pub fn take_record(
-    alloc: Global,
-    draft: Option<Draft>,
-    fields: &Fields,
-) -> Result<Progress, RecordStop>
-    ensures answer { Answers (record_taken draft fields.now) result }
-    ensures limits { GivesSheet result }
-{
-    match draft {
-        None => so_far(league_record(alloc, fields)),
-        Some(draft) => later_record(alloc, draft, fields),
-    }
-}
+    ghost is_sound = { λ draft. Unit {0} };
 
-fn so_far(draft: Result<Draft, RecordStop>) -> Result<Progress, RecordStop>
-    ensures { result ≡ as_progress draft }
-{
-    match draft {
-        Ok(draft) => Ok(Progress::SoFar(Some(draft))),
-        Err(stop) => Err(stop),
-    }
-}
+    ghost is_whole = { IsWithinLimits };
 
-// A record after the first one.
-fn later_record(alloc: Global, draft: Draft, fields: &Fields) -> Result<Progress, RecordStop>
-    ensures answer { Answers (later_taken draft fields.now) result }
-    ensures limits { GivesSheet result }
-{
-    if fields.is_kind(b"club") {
-        so_far(club_record(alloc, draft, fields))
-    } else if fields.is_kind(b"match") {
-        so_far(match_record(draft, fields))
-    } else if fields.is_kind(b"line") {
-        so_far(line_record(draft, fields))
-    } else if fields.is_kind(b"season") {
-        Ok(Progress::Whole(season_record(draft, fields)?))
-    } else {
-        Err(RecordStop::Fault(SheetFault::UnknownRecord))
+    // `league,NAME,L`, `league,NAME,L,B` or `league,NAME,L,B,ORDER`.
+    fn first_record(alloc: Global, fields: &Fields) -> Result<Draft, RecordStop<SheetFault>>
+        ensures answer { Answers (league_taken fields.now) result }
+        ensures sound { IfOk result (λ draft. Unit {0}) }
+    {
+        if !fields.is_kind(b"league") {
+            return Err(RecordStop::Fault(SheetFault::NoLeague));
+        }
+        if fields.len() < 3 || 5 < fields.len() {
+            return Err(RecordStop::Fault(SheetFault::WrongWidth));
+        }
+        let Some(name) = name_of(fields.at(1)) else {
+            return Err(RecordStop::Fault(SheetFault::BadField));
+        };
+        let Some(goal_limit) = number_within(1, u32::from(MOST_GOAL_LIMIT), fields.at(2)) else {
+            return Err(RecordStop::Fault(SheetFault::BadField));
+        };
+        let Some(budget) = budget_of(fields) else {
+            return Err(RecordStop::Fault(SheetFault::BadField));
+        };
+        let Some(order) = order_in(fields) else {
+            return Err(RecordStop::Fault(SheetFault::BadField));
+        };
+        Ok(Draft::begin(alloc, name, goal_limit as u8, budget, order)?)
     }
-}
 
-// `league,NAME,L`, `league,NAME,L,B` or `league,NAME,L,B,ORDER`.
-fn league_record(alloc: Global, fields: &Fields) -> Result<Draft, RecordStop>
-    ensures { Answers (league_taken fields.now) result }
-{
-    if !fields.is_kind(b"league") {
-        return Err(RecordStop::Fault(SheetFault::NoLeague));
+    fn later_record(
+        self,
+        alloc: Global,
+        fields: &Fields,
+    ) -> Result<Progress<Draft, Sheet>, RecordStop<SheetFault>>
+        ensures answer { Answers (later_taken self fields.now) result }
+        ensures limits { KeepsLimits (λ draft. Unit {0}) IsWithinLimits result }
+    {
+        if fields.is_kind(b"club") {
+            so_far(club_record(alloc, self, fields))
+        } else if fields.is_kind(b"match") {
+            so_far(match_record(self, fields))
+        } else if fields.is_kind(b"line") {
+            so_far(line_record(self, fields))
+        } else if fields.is_kind(b"season") {
+            Ok(Progress::Whole(season_record(self, fields)?))
+        } else {
+            Err(RecordStop::Fault(SheetFault::UnknownRecord))
+        }
     }
-    if fields.len() < 3 || 5 < fields.len() {
-        return Err(RecordStop::Fault(SheetFault::WrongWidth));
+
+    fn refusal_of_no_record(draft: &Option<Draft>) -> SheetFault
+        ensures { result ≡ refusal_of_no_record draft.now }
+    {
+        match draft {
+            None => SheetFault::NoLeague,
+            Some(_) => SheetFault::UnknownRecord,
+        }
     }
-    let Some(name) = name_of(fields.at(1)) else {
-        return Err(RecordStop::Fault(SheetFault::BadField));
-    };
-    let Some(goal_limit) = number_within(1, u32::from(MOST_GOAL_LIMIT), fields.at(2)) else {
-        return Err(RecordStop::Fault(SheetFault::BadField));
-    };
-    let Some(budget) = budget_of(fields) else {
-        return Err(RecordStop::Fault(SheetFault::BadField));
-    };
-    let Some(order) = order_in(fields) else {
-        return Err(RecordStop::Fault(SheetFault::BadField));
-    };
-    Ok(Draft::begin(alloc, name, goal_limit as u8, budget, order)?)
+
+    fn fault_at_end(draft: &Option<Draft>) -> SheetFault
+        ensures { result ≡ fault_at_end draft.now }
+    {
+        match draft {
+            None => SheetFault::NoLeague,
+            Some(_) => SheetFault::NoSeason,
+        }
+    }
 }
 
 fn budget_of(fields: &Fields) -> Option<u32>
@@ -148,7 +123,11 @@ fn order_in(fields: &Fields) -> Option<Order>
 }
 
 // `club,NAME,RANK`.
-fn club_record(alloc: Global, draft: Draft, fields: &Fields) -> Result<Draft, RecordStop>
+fn club_record(
+    alloc: Global,
+    draft: Draft,
+    fields: &Fields,
+) -> Result<Draft, RecordStop<SheetFault>>
     ensures { Answers (club_taken draft fields.now) result }
 {
     if draft.is_past_clubs() {
@@ -167,7 +146,7 @@ fn club_record(alloc: Global, draft: Draft, fields: &Fields) -> Result<Draft, Re
 }
 
 // `match,HOME,AWAY`.
-fn match_record(draft: Draft, fields: &Fields) -> Result<Draft, RecordStop>
+fn match_record(draft: Draft, fields: &Fields) -> Result<Draft, RecordStop<SheetFault>>
     ensures { Answers (match_taken draft fields.now) result }
 {
     if draft.has_few_clubs() {
@@ -186,7 +165,7 @@ fn match_record(draft: Draft, fields: &Fields) -> Result<Draft, RecordStop>
 }
 
 // `line,K`.
-fn line_record(draft: Draft, fields: &Fields) -> Result<Draft, RecordStop>
+fn line_record(draft: Draft, fields: &Fields) -> Result<Draft, RecordStop<SheetFault>>
     ensures { Answers (line_taken draft fields.now) result }
 {
     if draft.has_few_clubs() {
@@ -202,7 +181,7 @@ fn line_record(draft: Draft, fields: &Fields) -> Result<Draft, RecordStop>
 }
 
 // `season`.
-fn season_record(draft: Draft, fields: &Fields) -> Result<Sheet, RecordStop>
+fn season_record(draft: Draft, fields: &Fields) -> Result<Sheet, RecordStop<SheetFault>>
     ensures answer { Answers (season_taken draft fields.now) result }
     ensures limits { IfOk result (λ sheet. IsWithinLimits sheet) }
 {

@@ -6,6 +6,7 @@ use fixture_sheet::{
     Draft, Fields, FieldsStop, Progress, RecordStop, SheetFault, fields_of, name_of, number_within,
     number_written, take_content,
 };
+use league_core::Sheet;
 use result_log::FeedFault;
 use std::alloc::Global;
 use std::process::Abort;
@@ -79,7 +80,7 @@ fn drafted(alloc: Global) -> Result<Option<Draft>, Fail> {
 }
 
 // How many clubs a whole sheet has; none if it is not whole.
-fn clubs_in(progress: &Result<Progress, RecordStop>) -> Option<usize> {
+fn clubs_in(progress: &Result<Progress<Draft, Sheet>, RecordStop<SheetFault>>) -> Option<usize> {
     match progress {
         Ok(Progress::Whole(sheet)) => Some(sheet.clubs.len()),
         _ => None,

@@ -14,7 +14,7 @@ use Rattle.result_log.proofs.FeedLemmas.{feed_of-log}
 use Rattle.answer_rows.specs.Parts.{IsMadeOf}
 use Rattle.cert_check.specs.declared.outcome.CheckOutcome.TheVariants.{Accepted}
 use Rattle.cup_sheet.specs.declared.cup.Cup.{Cup}
-use Rattle.cup_sheet.specs.declared.fault.CupStop.{CupStop}
+use Rattle.cup_sheet.specs.CupReadings.{CupStop}
 use Rattle.cup_sheet.specs.Cups.{IsCup}
 use Rattle.cup_sheet.specs.CupFeeds.{joint_sheet}
 use Rattle.cup_sheet.specs.CupReadings.{CupReading, cup_reading_from, cup_reading_of}

@@ -9,7 +9,7 @@ use Rattle.league_core.specs.declared.season.Event.{Event}
 use Rattle.league_core.specs.game.Seasons.{IsEventOf, unplayed_season}
 use Rattle.port_core.specs.Lines.{lines_of}
 use Rattle.port_core.specs.Contents.{Contents, contents_of, input_limit, start}
-use Rattle.fixture_sheet.specs.declared.fault.SheetStop.{SheetStop}
+use Rattle.fixture_sheet.specs.Sheets.{SheetStop}
 use Rattle.fixture_sheet.specs.Sheets.{SheetReading, sheet_reading_from, sheet_reading_of}
 use Rattle.result_log.specs.declared.entry.Entry.{Entry}
 use Rattle.result_log.specs.declared.entry.Entry.TheVariants.{Change, Ask, Proofs, End}

@@ -12,21 +12,20 @@ use Rattle.port_core.specs.Contents.{is_line_limit_first, is_long_line, is_past_
 use Rattle.port_core.specs.Contents.{number_at, position_after, with_content}
 use Rattle.port_core.specs.Lines.{text_of_line}
 use Rattle.fixture_sheet.specs.declared.fault.SheetFault.{SheetFault}
-use Rattle.fixture_sheet.specs.declared.fault.SheetStop.{SheetStop}
-use Rattle.fixture_sheet.specs.declared.fault.SheetStop.TheVariants as sheet_stop
-use Rattle.fixture_sheet.specs.declared.record.Progress.{Progress}
-use Rattle.fixture_sheet.specs.declared.record.Progress.TheVariants.{SoFar, Whole}
+use Rattle.fixture_sheet.specs.Sheets.{SheetStop}
+use Rattle.fixture_sheet.specs.declared.fault.ReadingStop.TheVariants as sheet_stop
+use Rattle.fixture_sheet.specs.Records.{SheetProgress}
+use Rattle.fixture_sheet.specs.declared.progress.Progress.TheVariants.{SoFar, Whole}
 use Rattle.fixture_sheet.specs.Records.{content_taken}
-use Rattle.fixture_sheet.specs.Sheets.{sheet_reading_by, sheet_reading_from}
+use Rattle.fixture_sheet.specs.Readings.{reading_by}
+use Rattle.fixture_sheet.specs.Sheets.{sheet_reading_from}
 use Rattle.cup_sheet.specs.declared.cup.Cup.{Cup}
 use Rattle.cup_sheet.specs.declared.cup.CupDraft.{CupDraft}
 use Rattle.cup_sheet.specs.declared.fault.CupFault.{CupFault}
-use Rattle.cup_sheet.specs.declared.fault.CupStop.{CupStop}
-use Rattle.cup_sheet.specs.declared.fault.CupStop.TheVariants as cup_stop
-use Rattle.cup_sheet.specs.declared.record.CupProgress.{CupProgress}
-use Rattle.cup_sheet.specs.declared.record.CupProgress.TheVariants as cup_progress
+use Rattle.cup_sheet.specs.CupReadings.{CupStop}
+use Rattle.cup_sheet.specs.CupRecords.{CupProgress}
 use Rattle.cup_sheet.specs.CupRecords.{cup_content_taken}
-use Rattle.cup_sheet.specs.CupReadings.{cup_reading_by, cup_reading_from}
+use Rattle.cup_sheet.specs.CupReadings.{cup_reading_from}
 use Rattle.result_log.specs.declared.entry.Entry.{Entry}
 use Rattle.result_log.specs.declared.entry.Entry.TheVariants.{Change, Ask, Proofs, End}
 use Rattle.result_log.specs.declared.fault.FeedFault.{FeedFault}
@@ -92,9 +91,9 @@ sheet-known [] (Err stop) draft known = known
 sheet-known (line ∷ lines) ending draft known =
     by_made (content_taken draft line.1) (λ next. sheet-known lines ending next known)
   where
-    by_made : (made : Result Progress SheetFault)
+    by_made : (made : Result SheetProgress SheetFault)
         → ((next : Option Sheet) → IsKnownSheet (sheet_reading_from lines ending next).gives)
-        → IsKnownSheet (sheet_reading_by line.0 (record { lines = lines; ending = ending })
+        → IsKnownSheet (reading_by line.0 (record { lines = lines; ending = ending })
         (sheet_reading_from lines ending) made).gives
     by_made (Ok (SoFar next)) onward = onward next
     by_made (Ok (Whole sheet)) onward = tt
@@ -122,9 +121,9 @@ sheet-refused lines position stop gives complete =
 -- what comes of it
 abbrev IsKnownCup : Result Cup CupStop → Type 0
 IsKnownCup (Ok cup) = Unit {0}
-IsKnownCup (Err (cup_stop.Fault number fault)) = Unit {0}
-IsKnownCup (Err (cup_stop.Read stop)) = IsKnownEnding (Err stop)
-IsKnownCup (Err cup_stop.OutOfMemory) = ⊥
+IsKnownCup (Err (sheet_stop.Fault number fault)) = Unit {0}
+IsKnownCup (Err (sheet_stop.Read stop)) = IsKnownEnding (Err stop)
+IsKnownCup (Err sheet_stop.OutOfMemory) = ⊥
 
 cup-known : (lines : List (ℕ × List ℕ)) (ending : Result ℕ ReadStop) (draft : Option CupDraft)
     → IsKnownEnding ending → IsKnownCup (cup_reading_from lines ending draft).gives
@@ -135,10 +134,10 @@ cup-known (line ∷ lines) ending draft known =
   where
     by_made : (made : Result CupProgress CupFault)
         → ((next : Option CupDraft) → IsKnownCup (cup_reading_from lines ending next).gives)
-        → IsKnownCup (cup_reading_by line.0 (record { lines = lines; ending = ending })
+        → IsKnownCup (reading_by line.0 (record { lines = lines; ending = ending })
         (cup_reading_from lines ending) made).gives
-    by_made (Ok (cup_progress.SoFar next)) onward = onward next
-    by_made (Ok (cup_progress.Whole cup)) onward = tt
+    by_made (Ok (SoFar next)) onward = onward next
+    by_made (Ok (Whole cup)) onward = tt
     by_made (Err fault) onward = tt
 
 -- a session of a cup that is complete has its sheet
@@ -152,11 +151,11 @@ cup-refused lines position stop gives complete =
     (ending-known position lines))) complete
   where
     by_stop : (stop : CupStop) → IsKnownCup (Err stop) → outcome_at_cup stop ≡ Complete → ⊥
-    by_stop (cup_stop.Fault number fault) known is = cc
-    by_stop (cup_stop.Read read_stop.ReadFault) known is = known
-    by_stop (cup_stop.Read (read_stop.LineTooLong number)) known is = cc
-    by_stop (cup_stop.Read (read_stop.InputTooLong number)) known is = cc
-    by_stop cup_stop.OutOfMemory known is = known
+    by_stop (sheet_stop.Fault number fault) known is = cc
+    by_stop (sheet_stop.Read read_stop.ReadFault) known is = known
+    by_stop (sheet_stop.Read (read_stop.LineTooLong number)) known is = cc
+    by_stop (sheet_stop.Read (read_stop.InputTooLong number)) known is = cc
+    by_stop sheet_stop.OutOfMemory known is = known
 
 -- ---- the feed
 

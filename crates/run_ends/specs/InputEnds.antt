@@ -2,10 +2,9 @@
 use Rattle.std.specs.Prelude.{ℕ}
 use Rattle.port_core.specs.declared.line.ReadStop.{ReadStop}
 use Rattle.port_core.specs.declared.line.ReadStop.TheVariants as stop
-use Rattle.fixture_sheet.specs.declared.fault.SheetStop.{SheetStop}
-use Rattle.fixture_sheet.specs.declared.fault.SheetStop.TheVariants as sheet_stop
-use Rattle.cup_sheet.specs.declared.fault.CupStop.{CupStop}
-use Rattle.cup_sheet.specs.declared.fault.CupStop.TheVariants as cup_stop
+use Rattle.fixture_sheet.specs.Sheets.{SheetStop}
+use Rattle.fixture_sheet.specs.declared.fault.ReadingStop.TheVariants as sheet_stop
+use Rattle.cup_sheet.specs.CupReadings.{CupStop}
 use Rattle.run_ends.specs.declared.status.Status.{Status}
 use Rattle.run_ends.specs.declared.status.Status.TheVariants.{Done, BadSheet, BadFeed, TooLong}
 use Rattle.run_ends.specs.declared.run_end.Cause.{Cause}
@@ -44,10 +43,10 @@ outcome_at_sheet sheet_stop.OutOfMemory = Complete
 
 -- where no cup comes
 abbrev pub outcome_at_cup : CupStop → RunEnd
-outcome_at_cup (cup_stop.Fault number fault) =
+outcome_at_cup (sheet_stop.Fault number fault) =
     Refused (record { number = number; cause = cause.Cup fault })
-outcome_at_cup (cup_stop.Read stop) = outcome_at_stop stop
-outcome_at_cup cup_stop.OutOfMemory = Complete
+outcome_at_cup (sheet_stop.Read stop) = outcome_at_stop stop
+outcome_at_cup sheet_stop.OutOfMemory = Complete
 
 -- ---- the status
 

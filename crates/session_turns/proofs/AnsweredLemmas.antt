@@ -22,7 +22,7 @@ use Rattle.league_core.proofs.LotsLemmas.{lots_for_claim-are_lots}
 use Rattle.league_core.proofs.LogLemmas.{season_after_of, season_after_results}
 use Rattle.port_core.specs.declared.line.ReadStop.{ReadStop}
 use Rattle.port_core.specs.Contents.{Contents}
-use Rattle.fixture_sheet.specs.declared.fault.SheetStop.{SheetStop}
+use Rattle.fixture_sheet.specs.Sheets.{SheetStop}
 use Rattle.fixture_sheet.specs.Sheets.{sheet_reading_of}
 use Rattle.result_log.specs.declared.entry.Entry.{Entry}
 use Rattle.result_log.specs.declared.entry.Entry.TheVariants.{Change, Ask}

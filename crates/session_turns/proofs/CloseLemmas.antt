@@ -4,11 +4,12 @@ use Rattle.std.proofs.Common.{◌≡◌, ℕ, Bool, List, Option, None, Err, ref
 use Rattle.league_core.specs.declared.sheet.Sheet.{Sheet}
 use Rattle.port_core.specs.declared.line.ReadStop.TheVariants as read_stop
 use Rattle.port_core.specs.Readers.{LineReaderView, TakesInput, stream_of}
-use Rattle.fixture_sheet.specs.declared.fault.SheetStop.{SheetStop}
-use Rattle.fixture_sheet.specs.declared.fault.SheetStop.TheVariants as sheet_stop
+use Rattle.fixture_sheet.specs.Sheets.{SheetStop}
+use Rattle.fixture_sheet.specs.declared.fault.ReadingStop.TheVariants as sheet_stop
 use Rattle.fixture_sheet.specs.LastReads.{ReadsOnWay}
 use Rattle.fixture_sheet.specs.inside.Calls.{CountsSheet}
 use Rattle.fixture_sheet.specs.inside.SheetReads.{StopsAtSheet}
+use Rattle.fixture_sheet.specs.Records.{sheet_rules}
 use Rattle.result_log.specs.declared.fault.FeedStop.{FeedStop}
 use Rattle.result_log.specs.inside.Calls.{CountsEntry, MovesToEntry}
 use Rattle.result_log.specs.inside.FeedParts.{LiveReading}
@@ -209,7 +210,7 @@ module _ {S : Type 0} (left : S → Option (List ℕ)) (reads : S → List ℕ �
     (takes : TakesInput reader new (left before) (left after)) where
   -- a stop in place of a sheet
   pub sheet-last : (stop : SheetStop) (old now : Option (List ℕ)) (status : Status)
-      → StopsAtSheet left reads reader new before after (Err stop)
+      → StopsAtSheet sheet_rules left reads reader new before after (Err stop)
       → StopEnds (stop_of_sheet stop) old now status
       → StopsSession left reads (LeadSession mode) before after status
   sheet-last (sheet_stop.Read read_stop.ReadFault) old now status ways stops =

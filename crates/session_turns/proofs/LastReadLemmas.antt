@@ -9,6 +9,7 @@ use Rattle.port_core.specs.inside.ReaderCalls.{PassesTo}
 use Rattle.fixture_sheet.specs.inside.Calls.{ReadsSheetAs}
 use Rattle.fixture_sheet.specs.LastReads.{ReadsOnWay}
 use Rattle.fixture_sheet.specs.inside.SheetReads.{LeadsToDraft}
+use Rattle.fixture_sheet.specs.Records.{sheet_rules}
 use Rattle.fixture_sheet.proofs.LastReadLemmas.{passed-to-come}
 use Rattle.result_log.specs.declared.entry.Entry.TheVariants.{Ask}
 use Rattle.result_log.specs.declared.fault.FeedStop.{FeedStop}
@@ -45,7 +46,7 @@ use Rattle.session_turns.specs.Texts.{session_kind}
 
 -- the way to a sheet is on the course
 draft-course : (mode : Mode) (before after : Option Contents)
-    → LeadsToDraft before after → Stands (LeadSession mode) before after
+    → LeadsToDraft sheet_rules before after → Stands (LeadSession mode) before after
 draft-course mode None after leads = tt
 draft-course mode (Some before) None leads =
     absurd (told-nothing leads.1.0 before leads.1.1)
@@ -62,7 +63,8 @@ on-course mode origin taken log leads = inr (inl (origin, log, leads))
 module _ (mode : Mode) (origin : Origin) where
   -- after its sheet
   sheet-stands : (before after : Option Contents) (given : List (ℕ × List ℕ))
-      → before ≡ option_map (with_lines given) after → ReadsSheetAs before after (Ok origin.sheet)
+      → before ≡ option_map (with_lines given) after
+      → ReadsSheetAs sheet_rules before after (Ok origin.sheet)
       → Stands (λ taken. LeadToFeed mode taken (first_origin origin.sheet) []) before after
   sheet-stands None after given is reads = tt
   sheet-stands (Some before) None given is reads = absurd (told-nothing given before is)
@@ -103,14 +105,16 @@ module _ {S : Type 0} (left : S → Option (List ℕ)) (reads : S → List ℕ �
       (fresh : reader ≡ fresh_reader)
       (takes : TakesInput reader new (left before) (left after)) where
     -- what was read of the sheet was read on the course
-    sheet-course : ReadsOnWay left reads LeadsToDraft reader new before after
+    sheet-course : ReadsOnWay left reads (LeadsToDraft sheet_rules) reader new before after
         → ReadsOnWay left reads (Stands (LeadSession mode)) fresh_reader new before after
     sheet-course ways =
-        fresh-way left reads (LeadSession mode) LeadsToDraft reader new before after fresh
+        fresh-way left reads (LeadSession mode) (LeadsToDraft sheet_rules) reader new before after
+        fresh
         (draft-course mode) ways
 
     -- what came in place of a sheet
-    pub sheet-ends : (status : Status) → ReadsOnWay left reads LeadsToDraft reader new before after
+    pub sheet-ends : (status : Status)
+        → ReadsOnWay left reads (LeadsToDraft sheet_rules) reader new before after
         → StopsSession left reads (LeadSession mode) before after status
     sheet-ends status ways =
         stops-any left reads (LeadSession mode) new before after status (sheet-course ways)
@@ -118,16 +122,16 @@ module _ {S : Type 0} (left : S → Option (List ℕ)) (reads : S → List ℕ �
     -- the sheet
     pub sheet-come : (x y : Bool) (given : List (ℕ × List ℕ)) (sheet : Sheet)
         → PassesTo reader new (left before) (left after) x y given
-        → ReadsSheetAs (contents_to_come reader (left before))
+        → ReadsSheetAs sheet_rules (contents_to_come reader (left before))
         (contents_to_come new (left after)) (Ok sheet)
-        → ReadsOnWay left reads LeadsToDraft reader new before after
+        → ReadsOnWay left reads (LeadsToDraft sheet_rules) reader new before after
         → HasComeTo left reads mode before new after (first_origin sheet) []
     sheet-come x y given sheet passes read ways =
         let origin = first_origin sheet in
         let P : LineReaderView → Type 0 =
         λ r. PassesTo r new (left before) (left after) x y given in
         let Q : LineReaderView → Type 0 =
-        λ r. ReadsSheetAs (contents_to_come r (left before))
+        λ r. ReadsSheetAs sheet_rules (contents_to_come r (left before))
         (contents_to_come new (left after)) (Ok sheet) in
         let R : LineReaderView → Type 0 = λ r. TakesInput r new (left before) (left after) in
         record {

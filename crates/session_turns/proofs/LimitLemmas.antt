@@ -19,21 +19,20 @@ use Rattle.port_core.specs.declared.line.ReadStop.{ReadStop}
 use Rattle.port_core.specs.Contents.{Contents}
 use Rattle.fixture_sheet.specs.declared.fault.SheetFault.{SheetFault}
 use Rattle.fixture_sheet.specs.declared.fault.SheetFault.TheVariants as fault
-use Rattle.fixture_sheet.specs.declared.fault.SheetStop.{SheetStop}
-use Rattle.fixture_sheet.specs.declared.record.Progress.{Progress}
-use Rattle.fixture_sheet.specs.declared.record.Progress.TheVariants.{SoFar, Whole}
+use Rattle.fixture_sheet.specs.Sheets.{SheetStop}
+use Rattle.fixture_sheet.specs.Records.{SheetProgress}
+use Rattle.fixture_sheet.specs.declared.progress.Progress.TheVariants.{SoFar, Whole}
 use Rattle.fixture_sheet.specs.Fields.{field, has_return, record_of}
 use Rattle.fixture_sheet.specs.Texts.{name_of, number_within, number_written}
 use Rattle.fixture_sheet.specs.inside.Drafts.{IsDraft}
-use Rattle.fixture_sheet.specs.Records.{and_then, budget_of, club_added, club_of}
+use Rattle.fixture_sheet.specs.Readings.{and_then, reading_by, record_taken_if, so_far, whole}
+use Rattle.fixture_sheet.specs.Records.{budget_of, club_added, club_of}
 use Rattle.fixture_sheet.specs.Records.{club_taken, content_taken, fixture_added, fixture_of}
 use Rattle.fixture_sheet.specs.Records.{has_few_clubs, has_name, is_past_clubs, later_taken}
 use Rattle.fixture_sheet.specs.Records.{league_of, league_taken, line_added, line_taken}
-use Rattle.fixture_sheet.specs.Records.{match_taken, order_in, record_taken_if}
-use Rattle.fixture_sheet.specs.Records.{refusal_of_no_record, season_taken, sheet_begun, so_far}
-use Rattle.fixture_sheet.specs.Records.{whole}
-use Rattle.fixture_sheet.specs.Sheets.{sheet_reading_by, sheet_reading_from}
-use Rattle.fixture_sheet.specs.Sheets.{sheet_reading_of}
+use Rattle.fixture_sheet.specs.Records.{match_taken, order_in, sheet_rules}
+use Rattle.fixture_sheet.specs.Records.{refusal_of_no_record, season_taken, sheet_begun}
+use Rattle.fixture_sheet.specs.Sheets.{sheet_reading_from, sheet_reading_of}
 use Rattle.fixture_sheet.proofs.DraftLemmas.{club-keeps, line-keeps}
 use Rattle.run_ends.proofs.FieldLemmas.{Anything, Fits, Has, IsBetween, IsClub, IsMatchOf, IsNamed}
 use Rattle.run_ends.proofs.FieldLemmas.{club-has, fits-either, fits-ok_or, fits-unless, fixture-has}
@@ -211,7 +210,7 @@ season-fits sheet fields draft =
 -- ---- any record
 
 -- a sheet so far is one, or the whole sheet is within the limits
-abbrev IsKept : Progress → Type 0
+abbrev IsKept : SheetProgress → Type 0
 IsKept (SoFar draft) = Has IsDraft draft
 IsKept (Whole sheet) = IsWithinLimits sheet
 
@@ -237,7 +236,7 @@ later-fits sheet fields draft =
     tt)))
 
 record-fits : (draft : Option Sheet) (found : Option (List (List ℕ))) → Has IsDraft draft
-    → Fits IsKept (record_taken_if draft found)
+    → Fits IsKept (record_taken_if sheet_rules draft found)
 record-fits draft None is = is
 record-fits None (Some fields) is =
     fits-then IsDraft IsKept so_far (league_taken fields) (league-fits fields) (λ next begun. begun)
@@ -247,7 +246,7 @@ content-fits : (draft : Option Sheet) (content : List ℕ) → Has IsDraft draft
     → Fits IsKept (content_taken draft content)
 content-fits draft content is =
     fits-unless IsKept (has_return content) (refusal_of_no_record draft)
-    (record_taken_if draft (record_of content))
+    (record_taken_if sheet_rules draft (record_of content))
     (λ none. record-fits draft (record_of content) is)
 
 -- ---- all of the contents
@@ -266,8 +265,8 @@ lines-limits (line ∷ lines) ending draft is =
   where
     by_line : ((next : Option Sheet) → Has IsDraft next
         → GivesLimits (sheet_reading_from lines ending next).gives)
-        → (found : Result Progress SheetFault) → Fits IsKept found
-        → GivesLimits (sheet_reading_by line.0 (record { lines = lines; ending = ending })
+        → (found : Result SheetProgress SheetFault) → Fits IsKept found
+        → GivesLimits (reading_by line.0 (record { lines = lines; ending = ending })
         (sheet_reading_from lines ending) found).gives
     by_line behind (Ok (SoFar next)) fits = behind next fits
     by_line behind (Ok (Whole sheet)) fits = fits

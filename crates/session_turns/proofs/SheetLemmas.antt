@@ -7,12 +7,12 @@ use Rattle.league_core.specs.declared.sheet.Sheet.{Sheet}
 use Rattle.port_core.specs.declared.line.ReadStop.{ReadStop}
 use Rattle.port_core.specs.Contents.{Contents, with_lines}
 use Rattle.fixture_sheet.specs.declared.fault.SheetFault.{SheetFault}
-use Rattle.fixture_sheet.specs.declared.fault.SheetStop.{SheetStop}
-use Rattle.fixture_sheet.specs.declared.record.Progress.{Progress}
-use Rattle.fixture_sheet.specs.declared.record.Progress.TheVariants.{SoFar, Whole}
+use Rattle.fixture_sheet.specs.Sheets.{SheetStop}
+use Rattle.fixture_sheet.specs.Records.{SheetProgress}
+use Rattle.fixture_sheet.specs.declared.progress.Progress.TheVariants.{SoFar, Whole}
 use Rattle.fixture_sheet.specs.Records.{content_taken}
-use Rattle.fixture_sheet.specs.Sheets.{SheetReading, sheet_reading_by, sheet_reading_from}
-use Rattle.fixture_sheet.specs.Sheets.{sheet_reading_of}
+use Rattle.fixture_sheet.specs.Readings.{reading_by}
+use Rattle.fixture_sheet.specs.Sheets.{SheetReading, sheet_reading_from, sheet_reading_of}
 use Rattle.league_core.proofs.plain.Parts.{none-left}
 use Rattle.run_ends.proofs.StandLemmas.{known}
 
@@ -27,8 +27,8 @@ by-shorter : (number : ℕ) (lines : List (ℕ × List ℕ)) (ending : Result �
     (onward : Option Sheet → SheetReading) (sheet : Sheet) (rest : Contents)
     → ((draft : Option Sheet) → onward draft ≡ read_up_to sheet rest
     → length rest.lines < length lines)
-    → (found : Result Progress SheetFault)
-    → sheet_reading_by number (record { lines = lines; ending = ending }) onward found
+    → (found : Result SheetProgress SheetFault)
+    → reading_by number (record { lines = lines; ending = ending }) onward found
     ≡ read_up_to sheet rest
     → length rest.lines < suc (length lines)
 by-shorter number lines ending onward sheet rest behind (Ok (SoFar draft)) is =
@@ -58,9 +58,9 @@ by-elsewhere : (number : ℕ) (given : List (ℕ × List ℕ)) (there rest : Con
     (onward onward' : Option Sheet → SheetReading)
     → ((draft : Option Sheet) → onward draft ≡ read_up_to sheet there
     → onward' draft ≡ read_up_to sheet rest)
-    → (found : Result Progress SheetFault)
-    → sheet_reading_by number (with_lines given there) onward found ≡ read_up_to sheet there
-    → sheet_reading_by number (with_lines given rest) onward' found ≡ read_up_to sheet rest
+    → (found : Result SheetProgress SheetFault)
+    → reading_by number (with_lines given there) onward found ≡ read_up_to sheet there
+    → reading_by number (with_lines given rest) onward' found ≡ read_up_to sheet rest
 by-elsewhere number given there rest sheet onward onward' behind (Ok (SoFar draft)) is =
     behind draft is
 by-elsewhere number given there rest sheet onward onward' behind (Ok (Whole whole)) is =

@@ -11,10 +11,11 @@ use Rattle.port_core.specs.Contents.{contents_from, contents_of}
 use Rattle.port_core.specs.Readers.{LineReaderView, contents_after, contents_to_come, stream_of}
 use Rattle.port_core.specs.inside.ReaderCalls.{Passes, LeavesReader, PassesKnown}
 use Rattle.port_core.specs.inside.ReaderCalls.{given_by}
-use Rattle.fixture_sheet.specs.declared.fault.SheetStop.{SheetStop}
-use Rattle.fixture_sheet.specs.declared.fault.SheetStop.TheVariants as sheet_stop
+use Rattle.fixture_sheet.specs.Sheets.{SheetStop}
+use Rattle.fixture_sheet.specs.declared.fault.ReadingStop.TheVariants as sheet_stop
 use Rattle.fixture_sheet.specs.inside.Calls.{Leads, PassesUpTo, ReadsSheet, ReadsSheetAs}
 use Rattle.fixture_sheet.specs.inside.Calls.{sheet_answer_after}
+use Rattle.fixture_sheet.specs.Records.{sheet_rules}
 use Rattle.fixture_sheet.specs.Sheets.{sheet_reading_of}
 use Rattle.run_ends.specs.declared.status.Status.{Status}
 use Rattle.run_ends.specs.declared.status.Status.TheVariants.{ReadFault, OutOfMemory}
@@ -47,7 +48,7 @@ use Rattle.session_turns.specs.Texts.{session_kind}
 pub way-sheet : (mode : Mode) (input after : Option (List ℕ)) (told told' : Bool)
     (to : Position) (given : List (ℕ × List ℕ)) (sheet : Sheet) (old : Option (List ℕ))
     → PassesKnown start input told to after told' given
-    → ReadsSheetAs (contents_after start input) (contents_after to after) (Ok sheet)
+    → ReadsSheetAs sheet_rules (contents_after start input) (contents_after to after) (Ok sheet)
     → Path (session_kind mode) input told after told' to (course_from mode (first_origin sheet) [])
     old old
 way-sheet mode None after told told' to given sheet old passed reads = tt
@@ -71,7 +72,7 @@ pub turn-no_sheet : (mode : Mode) (input after : Option (List ℕ)) (told told' 
     (to : Position) (given : List (ℕ × List ℕ)) (stop : SheetStop) (fault : Fault)
     (left old now : Option (List ℕ)) (status : Status)
     → PassesKnown start input told to after told' given
-    → ReadsSheetAs (contents_after start input) (contents_after to after) (Err stop)
+    → ReadsSheetAs sheet_rules (contents_after start input) (contents_after to after) (Err stop)
     → outcome_at_sheet stop ≡ Refused fault → FaultEnds fault old now status
     → Serves (session_kind mode) input left told' old now status
 turn-no_sheet mode None after told told' to given stop fault left old now status passed reads
@@ -94,7 +95,8 @@ fails-early : (mode : Mode) (input held left : List ℕ) (told told' : Bool) (to
     (given : List (ℕ × List ℕ)) (old : Option (List ℕ))
     → Passes start input told to (held ++ left) told' given
     → (draft : Option Sheet)
-    → Leads (Some (contents_of input)) (Some (contents_from to (lines_of (held ++ left)))) draft
+    → Leads sheet_rules (Some (contents_of input))
+    (Some (contents_from to (lines_of (held ++ left)))) draft
     → HasNoLineFeed held
     → Serves (session_kind mode) (Some input) (Some left) told' old old ReadFault
 fails-early mode input held left told told' to given old passed draft leads no_feed =
@@ -119,7 +121,8 @@ pub turn-fails_early : (mode : Mode) (input : Option (List ℕ)) (held : List �
     (old : Option (List ℕ))
     → PassesKnown start input told to (prepend_known held left) told' given
     → (draft : Option Sheet)
-    → Leads (contents_after start input) (contents_after to (prepend_known held left)) draft
+    → Leads sheet_rules (contents_after start input) (contents_after to (prepend_known held left))
+    draft
     → HasNoLineFeed held
     → Serves (session_kind mode) input left told' old old ReadFault
 turn-fails_early mode None held left told told' to given old passed draft leads no_feed = tt
@@ -135,19 +138,19 @@ turn-fails_early mode (Some input) held (Some left) told told' to given old pass
 pub fresh-reads : (reader : LineReaderView) (input : Option (List ℕ)) (after : Option Contents)
     (result : Result Sheet SheetStop)
     → reader ≡ record { held = []; text = []; position = start }
-    → ReadsSheetAs (contents_to_come reader input) after result
-    → ReadsSheetAs (contents_after start input) after result
+    → ReadsSheetAs sheet_rules (contents_to_come reader input) after result
+    → ReadsSheetAs sheet_rules (contents_after start input) after result
 fresh-reads reader input after result is reads =
-    let P : Option Contents → Type 0 = λ before. ReadsSheetAs before after result in
+    let P : Option Contents → Type 0 = λ before. ReadsSheetAs sheet_rules before after result in
     subst P (fresh-contents reader input is) reads
 
 -- and so far
 pub fresh-leads : (reader : LineReaderView) (input : Option (List ℕ)) (after : Option Contents)
     (draft : Option Sheet) → reader ≡ record { held = []; text = []; position = start }
-    → Leads (contents_to_come reader input) after draft
-    → Leads (contents_after start input) after draft
+    → Leads sheet_rules (contents_to_come reader input) after draft
+    → Leads sheet_rules (contents_after start input) after draft
 fresh-leads reader input after draft is leads =
-    let P : Option Contents → Type 0 = λ before. Leads before after draft in
+    let P : Option Contents → Type 0 = λ before. Leads sheet_rules before after draft in
     subst P (fresh-contents reader input is) leads
 
 -- ---- what came of the reading
@@ -161,7 +164,8 @@ refused-serves : (mode : Mode) (reader new : LineReaderView) (input left : Optio
     (told told' : Bool) (found : SheetStop) (fault : Fault) (old now : Option (List ℕ))
     (status : Status) → reader ≡ record { held = []; text = []; position = start }
     → outcome_at_sheet found ≡ Refused fault
-    → ReadsSheetAs (contents_to_come reader input) (contents_to_come new left) (no_sheet found)
+    → ReadsSheetAs sheet_rules (contents_to_come reader input) (contents_to_come new left)
+    (no_sheet found)
     → PassesUpTo reader new input left told told' (sheet_answer_after new (no_sheet found))
     → FaultEnds fault old now status → Serves (session_kind mode) input left told' old now status
 refused-serves mode reader new input left told told' found fault old now status fresh is reads
@@ -176,7 +180,8 @@ refused-serves mode reader new input left told told' found fault old now status 
 pub sheet-stops : (mode : Mode) (reader new : LineReaderView) (input left : Option (List ℕ))
     (told told' : Bool) (found : SheetStop) (old now : Option (List ℕ)) (status : Status)
     → reader ≡ record { held = []; text = []; position = start }
-    → ReadsSheet (contents_to_come reader input) (contents_to_come new left) (no_sheet found)
+    → ReadsSheet sheet_rules (contents_to_come reader input) (contents_to_come new left)
+    (no_sheet found)
     → PassesUpTo reader new input left told told' (sheet_answer_after new (no_sheet found))
     → LeavesReader new left (sheet_answer_after new (no_sheet found))
     → StopEnds (stop_of_sheet found) old now status
@@ -216,7 +221,7 @@ sheet-stops mode reader new input left told told' sheet_stop.OutOfMemory old now
 pub sheet-comes : (mode : Mode) (reader new : LineReaderView)
     (input left : Option (List ℕ)) (told told' : Bool) (sheet : Sheet) (old : Option (List ℕ))
     → reader ≡ record { held = []; text = []; position = start }
-    → ReadsSheet (contents_to_come reader input) (contents_to_come new left) (Ok sheet)
+    → ReadsSheet sheet_rules (contents_to_come reader input) (contents_to_come new left) (Ok sheet)
     → PassesUpTo reader new input left told told' (Ok (line.Text new.position.lines))
     → Path (session_kind mode) input told (stream_of new left) told' new.position
     (course_from mode (first_origin sheet) []) old old

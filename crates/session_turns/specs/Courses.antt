@@ -10,7 +10,7 @@ use Rattle.league_core.specs.game.Results.{Results}
 use Rattle.league_core.specs.game.Seasons.{epoch_of, season_after}
 use Rattle.league_core.specs.search.Trees.{Tree}
 use Rattle.port_core.specs.Contents.{Contents}
-use Rattle.fixture_sheet.specs.declared.fault.SheetStop.{SheetStop}
+use Rattle.fixture_sheet.specs.Sheets.{SheetStop}
 use Rattle.fixture_sheet.specs.Sheets.{SheetReading, sheet_reading_of}
 use Rattle.result_log.specs.declared.entry.Entry.{Entry}
 use Rattle.result_log.specs.declared.fault.FeedFault.{FeedFault}

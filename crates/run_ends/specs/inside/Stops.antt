@@ -5,10 +5,9 @@ use Rattle.std.specs.Io.KnownBytes.{append_known}
 use Rattle.port_core.specs.Ports.{AppendsPrefix, Rose}
 use Rattle.port_core.specs.declared.line.ReadStop.{ReadStop}
 use Rattle.port_core.specs.declared.line.ReadStop.TheVariants as read_stop
-use Rattle.fixture_sheet.specs.declared.fault.SheetStop.{SheetStop}
-use Rattle.fixture_sheet.specs.declared.fault.SheetStop.TheVariants as sheet_stop
-use Rattle.cup_sheet.specs.declared.fault.CupStop.{CupStop}
-use Rattle.cup_sheet.specs.declared.fault.CupStop.TheVariants as cup_stop
+use Rattle.fixture_sheet.specs.Sheets.{SheetStop}
+use Rattle.fixture_sheet.specs.declared.fault.ReadingStop.TheVariants as sheet_stop
+use Rattle.cup_sheet.specs.CupReadings.{CupStop}
 use Rattle.result_log.specs.declared.fault.FeedStop.{FeedStop}
 use Rattle.result_log.specs.declared.fault.FeedStop.TheVariants as feed_stop
 use Rattle.run_ends.specs.declared.status.Status.{Status}
@@ -37,10 +36,10 @@ stop_of_sheet sheet_stop.OutOfMemory = OutOfMemory
 
 -- no cup is given
 abbrev pub stop_of_cup : CupStop → InputStop
-stop_of_cup (cup_stop.Fault number fault) =
+stop_of_cup (sheet_stop.Fault number fault) =
     Refused (record { number = number; cause = cause.Cup fault })
-stop_of_cup (cup_stop.Read stop) = stop_of_read stop
-stop_of_cup cup_stop.OutOfMemory = OutOfMemory
+stop_of_cup (sheet_stop.Read stop) = stop_of_read stop
+stop_of_cup sheet_stop.OutOfMemory = OutOfMemory
 
 -- the feed stopped
 abbrev pub stop_of_feed : FeedStop → InputStop

@@ -1,6 +1,6 @@
 use Rattle.std.proofs.Common.{Ok, sym, ap, ◌∙◌}
 use Rattle.port_core.specs.declared.line.Line.TheVariants.{Text, End}
-use Rattle.fixture_sheet.specs.Records.{content_taken}
+use Rattle.fixture_sheet.specs.Readings.{content_taken_by}
 use Rattle.fixture_sheet.specs.inside.Calls.{refused_before}
 use Rattle.fixture_sheet.proofs.LastReadLemmas.{line-stops}
 use Rattle.fixture_sheet.proofs.PassedLemmas.{leaves-as, passes-as, refused-end, refused-line}
@@ -10,26 +10,30 @@ use Rattle.fixture_sheet.proofs.reader.next_record.Goals as goal
 pub returns-in-Ok-clause-reads : goal.returns-in-Ok-clause-reads
 returns-in-Ok-clause-reads g c = λ start leads.
     let gives = rw c.in-Ok-Text.field-0-is at c.in-Ok-Text.ensures.gives in
-    line-steps start _ _ c.args.draft c.in-Ok-Text.number c.next.new.self.text leads gives
+    line-steps g.D.SheetSoFar.rules start _ _ c.args.draft c.in-Ok-Text.number c.next.new.self.text
+    leads gives
     c.in-Ok.progress
-    (ap (content_taken c.args.draft) (sym c.text.ensures) ∙ c.in-Ok.ensures.answer)
+    (ap (content_taken_by g.D.SheetSoFar.rules c.args.draft) (sym c.text.ensures)
+    ∙ c.in-Ok.ensures.answer)
 
 pub returns-in-Err-Fault-clause-reads : goal.returns-in-Err-Fault-clause-reads
 returns-in-Err-Fault-clause-reads g c = λ start leads.
     let gives = rw c.in-Ok-Text.field-0-is at c.in-Ok-Text.ensures.gives in
     let answer = rw c.in-Err-Fault.field-0-is at c.in-Err-Fault.ensures.answer in
-    line-refused start _ _ c.args.draft c.in-Ok-Text.number c.next.new.self.text leads gives
+    line-refused g.D.SheetSoFar.rules start _ _ c.args.draft c.in-Ok-Text.number
+    c.next.new.self.text leads gives
     c.in-Err-Fault.fault
-    (ap (content_taken c.args.draft) (sym c.text.ensures) ∙ answer)
+    (ap (content_taken_by g.D.SheetSoFar.rules c.args.draft) (sym c.text.ensures) ∙ answer)
 
 pub returns-in-Err-OutOfMemory-clause-reads : goal.returns-in-Err-OutOfMemory-clause-reads
 returns-in-Err-OutOfMemory-clause-reads g c = λ start leads.
     let gives = rw c.in-Ok-Text.field-0-is at c.in-Ok-Text.ensures.gives in
-    line-taken start _ _ c.args.draft c.in-Ok-Text.number c.next.new.self.text leads gives
+    line-taken g.D.SheetSoFar.rules start _ _ c.args.draft c.in-Ok-Text.number c.next.new.self.text
+    leads gives
 
 pub returns-in-Err-clause-reads : goal.returns-in-Err-clause-reads
 returns-in-Err-clause-reads g c = λ start leads.
-    stop-reads start _ _ c.args.draft c.next.new.self.text c.in-Err.stop leads
+    stop-reads g.D.SheetSoFar.rules start _ _ c.args.draft c.next.new.self.text c.in-Err.stop leads
     c.in-Err.ensures.gives
 
 pub returns-in-Ok-clause-passes : goal.returns-in-Ok-clause-passes
@@ -80,4 +84,5 @@ returns-in-Ok-End-clause-leaves g c =
 
 pub returns-in-Err-clause-last : goal.returns-in-Err-clause-last
 returns-in-Err-clause-last g c =
-    line-stops _ _ c.args.reader.now c.next.new.self _ _ c.in-Err.stop c.in-Err.ensures.last
+    line-stops g.D.SheetSoFar.rules _ _ c.args.reader.now c.next.new.self _ _ c.in-Err.stop
+    c.in-Err.ensures.last
