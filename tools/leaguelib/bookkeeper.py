@@ -8,32 +8,22 @@ from . import common
 from .cleaning import KINDS, OTHER_WORDS
 from .dates import is_same_day
 from .feeds import FeedReader, InputReader
+from .ledger import Ledger
 from .match_lines import parts_of
 from .matches import Match
 from .names import UnknownName, club_of
-from .records import Record, Refused, count_lines, record_of, records_of, row_text
+from .records import Record, Refused, count_lines, lines_of, record_of, records_of
 from .refusals import advise
-from .sheet_dates import dates_of
-from .slips import above_limit, played_text, why_open
+from .rulings import lines_for, replaced_text, ruling_of
+from .sheet_dates import dates_of, moved
+from .slips import Unclear, above_limit, played_text, why_open
 from .texts import Fixture, Sheet
 from .words import words_for
 
-FIRST_WORD = re.compile(r"^(correct|correction|fix|annul|annulled|void|cancel|deduct|result)"
-                        r"\s*:?\s+(\S.*)$", re.IGNORECASE)
-DEDUCTION = re.compile(r"^(?:(\d+)\s+points?\s+from\s+(.+)|(.+?)\s+[-−]?(\d+)(?:\s+points?)?)$",
-                       re.IGNORECASE)
+FIRST_WORD = re.compile(r"^(correct|correction|fix|annul|annulled|void|result)\s*:?\s+(\S.*)$",
+                        re.IGNORECASE)
 WHEN = re.compile(r"^when(?:\s*,\s*(\S+)|\s+(\S.*))$", re.IGNORECASE)
-MEANINGS = {"correct": "fix", "correction": "fix", "annul": "void", "annulled": "void",
-            "cancel": "void"}
-
-
-class Unclear(Exception):
-    """A line that cannot be turned into a line of the feed, and why; whether `undo` is offered."""
-
-    def __init__(self, message: str, offers_undo: bool = False) -> None:
-        super().__init__(message)
-        self.message = message
-        self.offers_undo = offers_undo
+MEANINGS = {"correct": "fix", "correction": "fix", "annul": "void", "annulled": "void"}
 
 
 class Bookkeeper:
@@ -46,14 +36,21 @@ class Bookkeeper:
         self.meant: dict[str, str] = {}
         self.notes: list[str] = []
         self.forms = "`league feed --help`"
+        self.ledger = Ledger()
         self._read_sheet(sheet, sheet_name)
+        self._dates_of_sheet = dates_of(sheet, self.sheet)
+        self.dates = dict(self._dates_of_sheet)
         self._read_log(log, log_name)
-        self.dates = dates_of(sheet, self.sheet)
 
     @property
     def sheet(self) -> Sheet:
         """The sheet."""
         return self.reader.sheet
+
+    @property
+    def names(self) -> list[str]:
+        """The names of the clubs."""
+        return [club.name for club in self.sheet.clubs]
 
     @property
     def feed(self) -> FeedReader:
@@ -81,9 +78,10 @@ class Bookkeeper:
     def _read_log(self, data: bytes, name: str) -> None:
         fields: list[str] = []
         try:
-            for record in records_of(data):
-                fields = record.fields
-                self.feed.take(record)
+            for number, raw in lines_of(data):
+                record = record_of(number, raw)
+                fields = record.fields if record else []
+                self.take_line(raw.decode("utf-8", "surrogateescape"), record)
         except Refused as refused:
             words = words_for(refused, fields, self.reader.sheet)
             raise common.Trouble(f"{name}, line {refused.line}: {words} (`league lint` says "
@@ -97,17 +95,32 @@ class Bookkeeper:
 
     def enter(self, line: str) -> None:
         """Takes a line that was made here."""
-        record = record_of(1, line.encode("utf-8"))
-        if record is not None:
-            self.feed.take(record)
+        self.take_line(line, record_of(1, line.encode("utf-8", "surrogateescape")))
+
+    def take_line(self, line: str, record: Record | None) -> None:
+        """Takes a line of the feed, which is a record or a comment."""
+        if record is None:
+            self.ledger.pass_over(line)
+            self.dates = moved(self._dates_of_sheet, self.ledger.days())
+        else:
+            self.ledger.note(self.feed.take(record))
 
     def is_order(self, text: str) -> bool:
-        """Whether a line is one of the feed, or a correction, annulment or deduction by names."""
+        """Whether a line is one of the feed, or a correction, an annulment or a ruling by names."""
         line = text.strip()
-        if line.lower() in KINDS or FIRST_WORD.match(line):
+        if line.lower() in KINDS or FIRST_WORD.match(line) or ruling_of(line, self):
             return True
         word = line.split(",")[0].strip().lower()
         return "," in line and (word in KINDS or word in OTHER_WORDS)
+
+    def lines_of(self, text: str) -> list[str]:
+        """The lines of the feed for a line by names, tested: a record, a ruling, or nothing."""
+        ruling = ruling_of(text.strip(), self)
+        if ruling is not None:
+            return lines_for(self, *ruling)
+        line = self.line_of(text)
+        self.notes += replaced_text(self.feed.season, line or "")
+        return [] if line is None else [line]
 
     def line_of(self, text: str) -> str | None:
         """The line of the feed for a line by names, tested; none if it is empty or a comment."""
@@ -116,13 +129,11 @@ class Bookkeeper:
             return None
         found = FIRST_WORD.match(line)
         if found is None and self.is_order(line):
-            return self._tested(line.lower() if line.lower() in KINDS else line)
+            return self.tested(line.lower() if line.lower() in KINDS else line)
         kind, rest = ("result", line)
         if found:
             word = found.group(1).lower()
             kind, rest = MEANINGS.get(word, word), found.group(2)
-        if kind == "deduct":
-            return self._deduction(rest)
         parts = parts_of(rest)
         if parts.match is None:
             why = parts.why
@@ -148,7 +159,7 @@ class Bookkeeper:
             if match is None:
                 raise Unclear("a match is asked about like `when Germany - Scotland` or `when,5`")
             number = self.fixture_of("when", match).number
-        line = self._tested(f"when,{number}")
+        line = self.tested(f"when,{number}")
         return self.sheet.fixture(int(line.split(",")[1]))
 
     def line_of_listed(self, match: Match) -> str | None:
@@ -171,7 +182,7 @@ class Bookkeeper:
             self.notes.append(f"the sheet has {fixture.home} - {fixture.away} on {date}, and not "
                               f"on {match.date}; it was taken all the same")
         goals = [] if kind == "void" else [str(goal) for goal in match.score or ()]
-        return self._tested(",".join([kind, str(fixture.number), *goals]))
+        return self.tested(",".join([kind, str(fixture.number), *goals]))
 
     def _correction(self, fixture: Fixture, score: tuple[int, int]) -> str:
         """How another score is put in place of the one that stands; the line was tried."""
@@ -186,23 +197,11 @@ class Bookkeeper:
         self.notes = notes
         return f"; `{typed if is_taken else line}` would replace it"
 
-    def _deduction(self, text: str) -> str:
-        """The line for points deducted."""
-        found = DEDUCTION.match(text)
-        if not found:
-            raise Unclear("a deduction is written like `deduct Scotland 3`, with the points "
-                          "deducted "
-                          "in all")
-        name = found.group(2) or found.group(3)
-        points = found.group(1) or found.group(4)
-        return self._tested(row_text("deduct", self.club(name.strip()), points).rstrip("\n"))
-
     def club(self, name: str) -> str:
         """The club that a name means; raises `Unclear` if none is meant, or several may be."""
         if name not in self.meant:
             try:
-                self.meant[name] = club_of(name, [club.name for club in self.sheet.clubs],
-                                           self.aliases)
+                self.meant[name] = club_of(name, self.names, self.aliases)
             except UnknownName as unknown:
                 raise Unclear(unknown.message) from unknown
         return self.meant[name]
@@ -231,11 +230,12 @@ class Bookkeeper:
         for one in found:
             date = self.dates.get(one.number)
             state = "played" if one.number in self.feed.season.scores else "open"
-            choices.append(f"`{kind},{one.number}{goals}` ({date + ', ' if date else ''}{state})")
+            written = f"match {one.number}" if kind == "match" else f"{kind},{one.number}{goals}"
+            choices.append(f"`{written}` ({date + ', ' if date else ''}{state})")
         return (f"{match.home} - {match.away} comes {len(found)} times in the sheet.{dated} "
                 f"Write the date before it, or one of these: {', '.join(choices)}")
 
-    def _tested(self, line: str) -> str:
+    def tested(self, line: str) -> str:
         """The line, where the program takes it; raises `Unclear` if it does not."""
         record = record_of(1, line.encode("utf-8", "surrogateescape"))
         if record is None:

@@ -5,6 +5,7 @@ A date without its year is kept as `Aug/17` until a full date before it tells th
 
 from __future__ import annotations
 
+import datetime
 import re
 import unicodedata
 from dataclasses import dataclass
@@ -125,6 +126,14 @@ def is_date(text: str) -> bool:
     """Whether a text is a date, with a weekday and a time of day or without."""
     found = front_date(text.strip())
     return found is not None and TIME.sub("", found.rest) == ""
+
+
+def is_calendar_day(date: str) -> bool:
+    """Whether a date like 2026-05-13 stands in the calendar."""
+    try:
+        return bool(datetime.date(*map(int, date.split("-"))))
+    except (TypeError, ValueError):
+        return False
 
 
 def with_year(date: str, before: str) -> str:

@@ -1,12 +1,17 @@
-"""Turns results, corrections, annulments and deductions by names into lines of the feed. Each line
+"""Turns results, corrections and the rulings of a season by names into lines of the feed. Each line
 is tested before it is written; if one is not clear, nothing at all is written, and nothing is
 guessed. Lines are written like these, with or without a date before them:
 
-    Germany 5-1 Scotland              a result
-    correct Germany 4-1 Scotland      another score for a match that has one
-    annul Germany - Scotland          the match counts as not played
-    deduct Scotland 3                 three points are deducted from Scotland in all
-    ask                               answer here
+    Germany 5-1 Scotland                    a result
+    correct Germany 4-1 Scotland            another score for a match that has one
+    annul Germany - Scotland                the match counts as not played
+    postpone Germany - Scotland 2026-05-13  a new date, or none yet; `tonight` passes the match over
+    award Germany 3-0 Scotland: REASON      a score by ruling, with its reason as a comment
+    withdraw Scotland 0-3                   its open matches are lost so; the played ones stand
+    deduct Scotland 3                       three points are taken off
+    deduct Scotland 3 more                  on top of others; or `deduct Scotland 9 in all`
+    undo deduct Scotland                    takes a ruling back: also postpone, award, withdraw
+    ask                                     answer here
 
 Lines of the feed itself (`result,1,5,1`) are taken too, and so is every list that `league sheet`
 takes, one or several: a table, a cross table, a text of openfootball, lines copied from a page.

@@ -7,12 +7,13 @@ from __future__ import annotations
 from dataclasses import dataclass, field
 
 from . import common
-from .bookkeeper import Bookkeeper, Unclear
+from .bookkeeper import Bookkeeper
 from .crosses import cross_of
 from .match_list import Match, MatchList, Passed, quoted
 from .match_tables import SIGNS, head_of
 from .matches import LineReader, is_month_first, lines_in, read_text, text_of
 from .several import FULL_DATE
+from .slips import Known, Unclear
 
 MOST_NAMES_SAID = 30
 MOST_NOTES = 5
@@ -162,17 +163,23 @@ def _take_lines(made: Made, book: Bookkeeper, given: Given) -> None:
                 _take_match(made, book, reader.found, match)
             continue
         try:
-            entry = book.line_of(line)
-            if entry is not None:
+            for entry in book.lines_of(line):
                 book.enter(entry)
                 made.lines.append(entry)
+            made.notes += [f"{_where(given, number)}: {note}" for note in book.take_notes()]
+        except Known as known:
+            made.notes.append(f"{_where(given, number)}: {known.message}")
         except Unclear as unclear:
-            where = f"{given.file}, line {number}" if given.file else f"line {number}"
-            made.wrong.append(f"{where}, {quoted(line)}: {unclear.message}")
+            made.wrong.append(f"{_where(given, number)}, {quoted(line)}: {unclear.message}")
     made.wrong += reader.wrong.messages
     made.notes += reader.found.notes
     if reader.found.passed_text():
         made.notes.append(reader.found.passed_text())
+
+
+def _where(given: Given, number: int) -> str:
+    """A line of a file, as messages begin."""
+    return f"{given.file}, line {number}" if given.file else f"line {number}"
 
 
 def _note_names(made: Made, book: Bookkeeper) -> None:

@@ -85,7 +85,7 @@ def names_of(folder: Path) -> tuple[str, str]:
         if entry.kind == "ask":
             lines.append("ask")
         elif entry.kind == "deduct":
-            lines.append(f"deduct {entry.club} {entry.points}")
+            lines.append(f"deduct {entry.club} {entry.points} in all")
         else:
             one = whole.sheet.fixture(entry.fixture)
             pair = [f for f in whole.sheet.fixtures if (f.home, f.away) == (one.home, one.away)]
