@@ -3,12 +3,14 @@
 from __future__ import annotations
 
 import re
+from dataclasses import replace
 
 from . import common
 from .cleaning import KINDS, OTHER_WORDS
 from .dates import is_same_day
 from .feeds import FeedReader, InputReader
 from .ledger import Ledger
+from .list_settings import MONTH_FIRST, settings_in
 from .match_lines import parts_of
 from .matches import Match
 from .names import UnknownName, club_of
@@ -16,7 +18,7 @@ from .records import Record, Refused, count_lines, lines_of, record_of, records_
 from .refusals import advise
 from .rulings import lines_for, replaced_text, ruling_of
 from .sheet_dates import dates_of, moved
-from .slips import Unclear, above_limit, played_text, why_open
+from .slips import Changed, Known, Unclear, above_limit, played_text, why_open
 from .texts import Fixture, Sheet
 from .words import words_for
 
@@ -32,12 +34,14 @@ class Bookkeeper:
     def __init__(self, sheet: bytes, log: bytes = b"", sheet_name: str = "the sheet",
                  log_name: str = "the feed", aliases: dict[str, str] | None = None) -> None:
         self.reader = InputReader()
-        self.aliases = aliases or {}
         self.meant: dict[str, str] = {}
         self.notes: list[str] = []
+        self.entered: set[int] = set()
         self.forms = "`league feed --help`"
         self.ledger = Ledger()
         self._read_sheet(sheet, sheet_name)
+        self.settings = settings_in(sheet)
+        self.aliases = {**self.settings.names, **(aliases or {})}
         self._dates_of_sheet = dates_of(sheet, self.sheet)
         self.dates = dict(self._dates_of_sheet)
         self._read_log(log, log_name)
@@ -95,7 +99,10 @@ class Bookkeeper:
 
     def enter(self, line: str) -> None:
         """Takes a line that was made here."""
-        self.take_line(line, record_of(1, line.encode("utf-8", "surrogateescape")))
+        record = record_of(1, line.encode("utf-8", "surrogateescape"))
+        self.take_line(line, record)
+        if record is not None and record.kind == "result":
+            self.entered.add(int(record.fields[1]))
 
     def take_line(self, line: str, record: Record | None) -> None:
         """Takes a line of the feed, which is a record or a comment."""
@@ -134,7 +141,7 @@ class Bookkeeper:
         if found:
             word = found.group(1).lower()
             kind, rest = MEANINGS.get(word, word), found.group(2)
-        parts = parts_of(rest)
+        parts = parts_of(rest, self.settings.days == MONTH_FIRST)
         if parts.match is None:
             why = parts.why
             reason = why if why and "cannot be read" not in why else "this is not understood"
@@ -142,7 +149,7 @@ class Bookkeeper:
                           f"{self.forms} has the other forms")
         if kind != "void" and parts.told.word:
             raise Unclear(why_open(parts.told))
-        return self.line_of_match(kind, parts.match)
+        return self.line_of_match(kind, self.with_score(parts.match))
 
     def asked_match(self, text: str) -> Fixture | None:
         """The open match of a line `when,5` or `when Germany - Scotland`; none of any other line.
@@ -162,6 +169,16 @@ class Bookkeeper:
         line = self.tested(f"when,{number}")
         return self.sheet.fixture(int(line.split(",")[1]))
 
+    def with_score(self, match: Match) -> Match:
+        """The match with its score, also where signs alone say to whom it was awarded."""
+        if not match.winner:
+            return match
+        if self.settings.walkover is None:
+            raise Unclear("the signs say who won and not the score: write the score that counts, "
+                          "like 3-0, or give --walkover 3-0")
+        won, lost = self.settings.walkover
+        return replace(match, score=(won, lost) if match.winner == "home" else (lost, won))
+
     def line_of_listed(self, match: Match) -> str | None:
         """The line for a match of a list, none if its score stands already."""
         fixture = self.fixture_of("result", match)
@@ -175,8 +192,7 @@ class Bookkeeper:
             raise Unclear("the score is missing, as in `Germany 5-1 Scotland`")
         fixture = self.fixture_of(kind, match)
         if kind == "result" and fixture.number in self.feed.season.scores:
-            raise Unclear(played_text(self.sheet, self.feed.season, fixture)
-                          + self._correction(fixture, match.score))
+            raise self._changed(fixture, match.score)
         date = self.dates.get(fixture.number, "")
         if match.date and date and not is_same_day(match.date, date):
             self.notes.append(f"the sheet has {fixture.home} - {fixture.away} on {date}, and not "
@@ -184,10 +200,13 @@ class Bookkeeper:
         goals = [] if kind == "void" else [str(goal) for goal in match.score or ()]
         return self.tested(",".join([kind, str(fixture.number), *goals]))
 
-    def _correction(self, fixture: Fixture, score: tuple[int, int]) -> str:
-        """How another score is put in place of the one that stands; the line was tried."""
+    def _changed(self, fixture: Fixture, score: tuple[int, int]) -> Unclear:
+        """What to say of another result, and how it is put in place of the one that stands; the
+        line was tried.
+        """
+        front = played_text(self.sheet, self.feed.season, fixture)
         if self.feed.season.scores[fixture.number] == score:
-            return ": this line can be left out"
+            return Known(f"{front}: this line can be left out")
         typed = f"correct {fixture.home} {score[0]}-{score[1]} {fixture.away}"
         line, notes = f"fix,{fixture.number},{score[0]},{score[1]}", list(self.notes)
         try:
@@ -195,7 +214,8 @@ class Bookkeeper:
         except Unclear:
             is_taken = False
         self.notes = notes
-        return f"; `{typed if is_taken else line}` would replace it"
+        typed = typed if is_taken else line
+        return Changed(f"{front}; `{typed}` would replace it", line, typed)
 
     def club(self, name: str) -> str:
         """The club that a name means; raises `Unclear` if none is meant, or several may be."""
@@ -218,6 +238,9 @@ class Bookkeeper:
                  if match.date and is_same_day(match.date, self.dates.get(one.number, ""))]
         if len(found) == 1 or len(dated) == 1:
             return found[0] if len(found) == 1 else dated[0]
+        is_told = bool(match.date) and any(one.number in self.dates for one in found)
+        if match.turn[1] == len(found) and not is_told:
+            return found[match.turn[0]]
         raise Unclear(self._which(kind, match, found))
 
     def _which(self, kind: str, match: Match, found: list[Fixture]) -> str:

@@ -126,7 +126,8 @@ def read_cross(lines: list[str], cross: Cross, file: str) -> MatchList:
                 continue
             note_told(found, told, number, f"{names[row]} - {names[away]}")
             text = f"{names[row]} - {names[away]} {cell}"
-            found.add(Match(names[row], names[away], told.score, "", number, text, file))
+            found.add(Match(names[row], names[away], told.score, "", number, text, file,
+                            told.winner))
     wrong.refuse()
     return found
 

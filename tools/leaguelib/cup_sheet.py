@@ -37,7 +37,7 @@ def cup_groups(arguments: argparse.Namespace) -> tuple[MatchList, list[Drawn]]:
         for group in groups:
             group.days = round_robin(group.clubs, arguments.rounds or 1)
         return MatchList(), groups
-    found = read_lists(arguments.lists, read_aliases(arguments.aliases))
+    found = read_lists(arguments.lists, read_aliases(arguments.aliases), arguments.days or "")
     if not found.matches:
         raise common.Trouble("the list has no matches")
     groups = with_matches(groups, found.matches) if groups else groups_in_list(found)

@@ -161,6 +161,13 @@ def is_same_day(first: str, second: str) -> bool:
     return first == second or (is_short and len(days) == 2 and days[0] == days[1])
 
 
+def unclear_day(text: str) -> str:
+    """The first date like 03/04/2026 that has another meaning if the month comes first."""
+    return next((found.group() for found in SLASHED.finditer(text)
+                 if found.group(1) != found.group(2) and int(found.group(1)) <= 12
+                 and int(found.group(2)) <= 12 and int(found.group(1)) != int(found.group(2))), "")
+
+
 def slashed_order(text: str) -> str:
     """The order of dates like 8/15/2024 in a list: `day`, `month` or `both`, told by numbers
     above 12; nothing if no date tells it."""

@@ -28,6 +28,8 @@ from . import common
 from .aliases import add_alias_argument, read_aliases
 from .bookkeeper import Bookkeeper
 from .feed_lines import Made, all_made
+from .feed_report import report_of
+from .list_settings import add_list_arguments
 from .match_lines import HINT
 from .match_list import MOST_WRONG
 from .names import ALL_CLUBS
@@ -42,10 +44,14 @@ def add_arguments(parser: argparse.ArgumentParser) -> None:
                         help="the lines by names, in one file or several; standard input if left "
                              "out")
     add_alias_argument(parser)
+    add_list_arguments(parser)
     parser.add_argument("--log", metavar="FEED", help="the feed so far; new lines go after it")
     parser.add_argument("--append", action="store_true",
                         help="write the new lines to the end of the feed so far")
     parser.add_argument("--ask", action="store_true", help="write an `ask` after the last line")
+    parser.add_argument("--correct", action="store_true",
+                        help="take other scores than those of the feed as corrections; without it "
+                             "they are said, and the rest is taken")
 
 
 def run(arguments: argparse.Namespace) -> int:
@@ -58,8 +64,10 @@ def run(arguments: argparse.Namespace) -> int:
     log = _log_so_far(arguments)
     book = Bookkeeper(common.read_bytes(arguments.sheet), log, file_name(arguments.sheet),
                       arguments.log or "the feed", read_aliases(arguments.aliases))
-    made = all_made(book, [(file_name(path), common.read_bytes(path)) for path in paths])
-    for note in made.notes:
+    book.settings = book.settings.told(arguments)
+    made = all_made(book, [(file_name(path), common.read_bytes(path)) for path in paths],
+                    arguments.correct)
+    for note in report_of(made):
         common.say(f"league: {note}")
     if made.wrong or made.refused:
         _tell_wrong(made)
@@ -74,7 +82,7 @@ def run(arguments: argparse.Namespace) -> int:
         _append(arguments.log, gap + text)
     else:
         common.write_text(text)
-    return common.DONE
+    return common.DOUBTFUL if made.changed and not arguments.correct else common.DONE
 
 
 def _log_so_far(arguments: argparse.Namespace) -> bytes:

@@ -10,7 +10,8 @@ from dataclasses import dataclass, replace
 from .dates import MONTH, TIME, WEEKDAY, front_date, with_year
 from .match_list import Match, MatchList, Passed, Wrong
 from .names import shown
-from .score_texts import (GOALS, HALF_TIME, MARK, Told, is_clock, mark_of, plain_signs, read_score,
+from .score_texts import (AWARD_IN_FRONT, GOALS, HALF_TIME, MARK, NOTED, Told, WALKOVER,
+                          WORDS_OF_AWARD, is_clock, mark_of, plain_signs, read_score,
                           running_mark, still_running, with_marks)
 
 ROUND_WORDS = (r"(?:matchday|match day|round|gameweek|game week|week|gw|md|day|spieltag|runde|"
@@ -66,6 +67,8 @@ def parts_of(line: str, is_month_first: bool = False) -> Parts:
         if not TIME.sub("", rest):
             return Parts(None, date=date)
     rest = TIME.sub("", WEEKDAY.sub("", rest, count=1), count=1)
+    rest = AWARD_IN_FRONT.sub(r"\1 awd.", WORDS_OF_AWARD.sub("awd.", NOTED.sub("", rest)))
+    winner, rest = _without_walkover(rest)
     running, rest = running_mark(rest)
     body, marks = _without_tails(VENUE.sub("", rest).strip())
     match, between = _names_of(body)
@@ -75,7 +78,18 @@ def parts_of(line: str, is_month_first: bool = False) -> Parts:
     told = still_running(told, running) if running else told
     if told.why:
         return Parts(None, date=date, why=told.why)
-    return Parts(replace(match, score=told.score, date=date), told, date)
+    told = Told(winner=winner) if winner else told
+    return Parts(replace(match, score=told.score, date=date, winner=winner), told, date)
+
+
+def _without_walkover(text: str) -> tuple[str, str]:
+    """The side to which a match is awarded by signs like `+:-`, and the text with a score there."""
+    found = WALKOVER.search(text)
+    if found is None or " " in found.group():
+        return "", text
+    is_home = bool(found.group(1))
+    score = "1-0" if is_home else "0-1"
+    return "home" if is_home else "away", text[:found.start()] + score + text[found.end():]
 
 
 def _without_tails(text: str) -> tuple[str, list[str]]:
@@ -93,7 +107,7 @@ def _without_tails(text: str) -> tuple[str, list[str]]:
 def _is_tail(text: str) -> bool:
     """Whether a piece at the end of a line is none of the names."""
     inner = text.strip("()[]")
-    if re.match(r"^[-–—?*_]\s?[:-]\s?[-–—?*_]$", text) or is_clock(text):
+    if re.match(r"^[-–—?*_xX]\s?[:-]\s?[-–—?*_xX]$", text) or is_clock(text):
         return True
     if text[0] in "([":
         is_mark = bool(HALF_TIME.match(text) or mark_of(inner))
@@ -232,7 +246,7 @@ class LineReader:
 
 def note_told(found: MatchList, told: Told, number: int, line: str) -> None:
     """Notes what a place for a score told beside the goals."""
-    if told.score is None:
+    if told.score is None and not told.winner:
         word = f" ({told.word})" if told.word else ""
         remark = f", {told.remark}" if told.remark and told.word else ""
         found.passed.append(Passed(f"match without a score{word}{remark}", number, line))

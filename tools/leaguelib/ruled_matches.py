@@ -5,8 +5,9 @@ from __future__ import annotations
 import re
 from typing import TYPE_CHECKING
 
-from .dates import TIME, front_date, is_calendar_day
+from .dates import TIME, front_date, is_calendar_day, unclear_day
 from .ledger import NO_DAY
+from .list_settings import MONTH_FIRST
 from .match_lines import Parts, parts_of
 from .slips import Unclear
 from .texts import Fixture
@@ -21,12 +22,12 @@ def with_day(body: str, book: "Bookkeeper") -> tuple[str, str]:
     """The match of a ruling, and the day at its end; `none` if no day is there."""
     for found in re.finditer(r"\s+(?=\S)", body):
         rest = re.sub(r"^(?:to|on|until)\s+", "", body[found.end():], flags=re.IGNORECASE)
-        front = front_date(rest)
+        front = front_date(rest, book.settings.days == MONTH_FIRST)
         if front is None or TIME.sub("", front.rest):
             continue
         if not re.match(r"^\d{4}-\d{2}-\d{2}$", front.date) or not is_calendar_day(front.date):
             raise Unclear(f"`{rest}` is no full date: write it like 2026-05-13")
-        if re.match(r"^\d{1,2}/\d{1,2}/", rest):
+        if unclear_day(rest) and not book.settings.days:
             raise Unclear(f"`{rest}` can have the day or the month first: write it like 2026-05-13")
         return body[:found.start()], front.date
     return body, NO_DAY

@@ -18,6 +18,7 @@ from .cup_sheet import add_cup_arguments, cup_groups, cup_notes, cup_text, group
 from .doubts import name_doubts
 from .feeds import InputReader
 from .line_names import LineNames, add_name_arguments, comments_of, told_names
+from .list_settings import ListSettings, add_list_arguments, comments_for
 from .match_list import Match, MatchList
 from .names import nearest_name, shown
 from .pairs import Gaps, gaps_in, lone_names, look_at_cross, usual_rounds
@@ -56,6 +57,7 @@ def add_arguments(parser: argparse.ArgumentParser) -> None:
                         help="lines NAME,RANK: the clubs in their order, with their ranks")
     add_cup_arguments(parser)
     add_alias_argument(parser)
+    add_list_arguments(parser)
     parser.add_argument("--rounds", type=int, metavar="N", help="how often each pair meets")
     parser.add_argument("--as-is", action="store_true", help="the list is meant as it is")
     parser.add_argument("--no-comments", action="store_true", help="write records alone")
@@ -71,7 +73,7 @@ def run(arguments: argparse.Namespace) -> int:
     if not arguments.lists:
         raise common.Trouble("name a LIST of fixtures, or `-` for standard input",
                              common.BAD_WORDS)
-    found = read_lists(arguments.lists, read_aliases(arguments.aliases))
+    found = read_lists(arguments.lists, read_aliases(arguments.aliases), arguments.days or "")
     if not found.matches:
         raise common.Trouble("the list has no matches")
     if not arguments.as_is:
@@ -273,7 +275,8 @@ def _comments(found: MatchList, gaps: Gaps, ranks: dict[str, int], order: str,
         comments.append("# Level on points: head-to-head record first (head_first).")
     else:
         comments.append("# Level on points: goal difference and goals first (overall_first).")
-    return [comment + "\n" for comment in comments]
+    settings = ListSettings(arguments.days or found.days, arguments.walkover)
+    return [comment + "\n" for comment in comments] + comments_for(settings)
 
 
 def _test(text: str) -> list[str]:

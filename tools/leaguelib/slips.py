@@ -22,6 +22,17 @@ class Known(Unclear):
     """A line that would change nothing, since what it says stands already."""
 
 
+class Changed(Unclear):
+    """A result of a match that has another one; `correction` is the record that would replace it,
+    and `typed` how a person writes it.
+    """
+
+    def __init__(self, message: str, correction: str, typed: str) -> None:
+        super().__init__(message)
+        self.correction = correction
+        self.typed = typed
+
+
 def played_text(sheet: Sheet, season: Season, fixture: Fixture) -> str:
     """What to say of a match that has a result: first which match of the two clubs is open."""
     still = [one for one in season.open_fixtures(sheet)

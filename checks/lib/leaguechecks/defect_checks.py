@@ -26,7 +26,7 @@ CASES = (
     ("an open match among lines", "Anchor - Köln 2:1\nKöln - Anchor\n", [], 0, "match,Köln,Anchor",
      0, "result,1,2,1\n"),
     ("headings among lines", "Matchday 1\nAnchor 2-1 Köln\nMatchday 2\nKöln - Anchor\n", [], 0,
-     "match,Köln,Anchor", 0, "2 headings (line 1 `Matchday 1`; line 3 `Matchday 2`)"),
+     "match,Köln,Anchor", 0, "2 headings (line 1 `Matchday 1`, ..)"),
     ("one match that is added", "Anchor 2-1 Köln\n", ["--rounds", "2"], 3, "1 match was added that",
      0, "result,1,2,1\n"),
     ("a question behind a sentence", "Anchor 2-1 Köln\nDock 1-0 Anchor\nKöln 1-0 Docks\n", [], 2,

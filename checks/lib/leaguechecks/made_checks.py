@@ -39,7 +39,7 @@ SHEETS = (
     ("a misspelt name among rounds", LIST.replace("Dock United -", "Dock Unitd -"),
      MADE + ["--rounds", "2"], 3, "is it `"),
     ("a line that is no match", LIST + "postponed\n", MADE, 2, "line 4: cannot be read"),
-    ("a table", "Div,Date,HomeTeam,AwayTeam\nE,11/08/23,Anchor,Köln\n", MADE, 0, "# 2023-08-11"),
+    ("a table", "Div,Date,HomeTeam,AwayTeam\nE,21/08/23,Anchor,Köln\n", MADE, 0, "# 2023-08-21"),
     ("a table with semicolons", "Heim;Gast\nAnchor;Köln\n", MADE, 0, "match,Anchor,Köln"),
     ("openfootball", "= Cup 2024\n\nMatchday 1\n[Fri Aug/11]\n 20.00  Anchor  2-1 (0-0)  Köln\n"
      " Köln  v Anchor  @ Harbour\n", MADE[2:], 0, "league,Cup 2024,9"),
@@ -66,8 +66,8 @@ FEEDS = (
     ("a misspelt club", "Ancor 2-1 Köln\n", 2, "nearest name is `Anchor`"),
     ("a name without its accent", "Anchor 2-1 Koln\n", 0, "result,1,2,1\n"),
     ("home and away exchanged", "Köln 1-2 Anchor\n", 2, "Anchor - Köln, fixture 1"),
-    ("a result twice", "Anchor 2-1 Köln\nAnchor 2-1 Köln\n", 0, "1 result that is there already "
-     "(line 2 `Anchor 2-1 Köln`)"),
+    ("a result twice", "Anchor 2-1 Köln\nAnchor 2-1 Köln\n", 0, "1 result added; 1 was there "
+     "already"),
     ("a result twice, another score", "Anchor 2-1 Köln\nAnchor 2-2 Köln\n", 2, "already"),
     ("no score", "Anchor - Köln\n", 0, "1 match without a score (line 1 `Anchor - Köln`)"),
     ("no match", "good evening\n", 2, "line 1: cannot be read as a match: `good evening`"),
@@ -157,7 +157,7 @@ def check_log(counter: Counter, sheet: Path, log: Path) -> None:
     wanted = "# first day\nresult,1,2,1\nask\nresult,2,0,0\nask\nfix,2,1,1\nask\n"
     statuses = [run.returncode for run in runs]
     counter.check("feed: a log that grows", [log.read_text("utf-8"), str(statuses)]
-                  if log.read_text("utf-8") != wanted or statuses != [0, 0, 2, 0] else [])
+                  if log.read_text("utf-8") != wanted or statuses != [0, 0, 3, 0] else [])
     counter.check("feed: a table read again brings no second ask",
                   said(runs[1], 0, "ends with an `ask` already"))
     log.unlink()

@@ -88,7 +88,8 @@ REFUSED = (
      "Dock United - Anchor is on 2026-05-13 already"),
     ("the date of the sheet", "", "postpone Köln - Dock 2025-08-31", 0, "on 2025-08-31 already"),
     ("a day that is not", "", "postpone Köln - Dock 2026-02-31", 2, "write it like 2026-05-13"),
-    ("a day in two orders", "", "postpone Köln - Dock 03/04/2026", 2, "write it like 2026-05-13"),
+    ("a day in two orders", "", "postpone Köln - Dock 03/04/2026", 2,
+     "is the day or the month first in 03/04/2026?"),
     ("one of two", "", "postpone Anchor - Köln 2026-05-13", 2,
      "`match 1` (2025-08-31, open), `match 4` (2025-09-07, open)"),
     ("an award without a score", "", "award Köln - Dock", 2, "the score that was awarded is missi"),
@@ -138,6 +139,9 @@ def check_rulings(counter: Counter) -> None:
                 ["written: " + run.stdout.decode("utf-8")] if run.stdout else []))
         feed.write_text("deduct,Dock United,6\n", "utf-8")
         run = called(*words, data=b"deduct,Dock United,3\n")
+        other = called(*words, "--days", "month-first", data=b"postpone match 1 03/04/2026\n")
+        counter.check("ruling: a date whose order is told", [] if other.stdout.startswith(
+            b"# new date: 1,2026-03-04 (") else [str(other)])
         counter.check("ruling: a record that replaces a total", said(
             run, 0, "line 1: Dock United had 6 points off, and has 3 in all now"))
     _check_tonight(counter)
