@@ -12,6 +12,7 @@ import argparse
 
 from . import common
 from .files import examine, without_mark
+from .list_settings import settings_in
 from .names import UnknownName, club_of, plain_form, shown, tidy
 from .records import fields_of
 from .texts import Sheet
@@ -61,6 +62,11 @@ def _take(aliases: dict[str, str], columns: list[str]) -> str:
         return f"{shown(columns[0])} is there already, for {shown(aliases[form])}"
     aliases[form] = columns[1]
     return ""
+
+
+def all_aliases(sheet: bytes, path: str | None) -> dict[str, str]:
+    """The other names that a sheet keeps in its comments, and those of a file."""
+    return {**settings_in(sheet).names, **read_aliases(path)}
 
 
 def chosen_club(name: str, sheet: Sheet, aliases: dict[str, str] | None = None) -> str:

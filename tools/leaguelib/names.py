@@ -1,8 +1,9 @@
 """Names as people type them: the club that is meant, the same name in another spelling, and the
 nearest name.
 
-`club_of` says for the whole of `league` which club a name means. A part of a name is taken only
-where one club alone has it; nothing is guessed from how a name looks.
+`club_of` says for the whole of `league` which club a name means. A part of a name, a short name that
+everybody knows and initials are taken only where one club alone has them; nothing is guessed from
+how a name looks.
 """
 
 from __future__ import annotations
@@ -11,6 +12,8 @@ import difflib
 import re
 import unicodedata
 from typing import Iterable, Mapping
+
+from .short_names import initials_typed, known_names
 
 INVISIBLE = "\u200b\u200c\u200d\u2060\ufeff\u00ad"
 SPACES = " \t\u00a0\u2007\u202f\u3000" + INVISIBLE
@@ -21,6 +24,7 @@ LETTERS = str.maketrans({"ø": "o", "Ø": "o", "ł": "l", "Ł": "l", "đ": "d", 
 CLUB_WORDS = frozenset("fc afc cf sc sv ac as fk sk nk if bk ff cd ud sd club the & and und 1"
                        .split())
 ALL_CLUBS = "; the clubs are "
+ELIDED = re.compile(rf"\b[ld][{APOSTROPHES}]", re.IGNORECASE)
 OTHER_TEAMS = frozenset("ii iii iv b c 2 3 u17 u18 u19 u20 u21 u23 women ladies girls frauen "
                         "femenino femminile feminines youth reserves".split())
 
@@ -61,7 +65,7 @@ def club_of(name: str, names: Iterable[str], aliases: Mapping[str, str] | None =
     alias = (aliases or {}).get(plain_form(typed))
     if alias is not None:
         return _club_of_alias(typed, alias, every)
-    for is_meant in (_is_same, _is_same_club, _is_part, _has_part, _is_shortened):
+    for is_meant in WAYS.values():
         found = [other for other in every if is_meant(typed, other)]
         if len(found) == 1:
             return found[0]
@@ -70,7 +74,8 @@ def club_of(name: str, names: Iterable[str], aliases: Mapping[str, str] | None =
                               found)
     near = nearest_name(typed, every)
     hint = f"the nearest name is {shown(near)}" if near else (
-        ", ".join(every) + ". Other names can be in a file (--aliases)")
+        ", ".join(every) + ". Other names can be in a file (--aliases), or in the "
+        "sheet (`league names`)")
     sign = "; " if near else ALL_CLUBS
     raise UnknownName(f"no club is called {shown(typed)}{sign}{hint}", [near] if near else [])
 
@@ -96,8 +101,10 @@ def words_in(name: str) -> list[str]:
 
 
 def core_words(name: str) -> list[str]:
-    """The words of a name without those that many clubs have, like FC; all if none is left."""
-    every = words_in(name)
+    """The words of a name without those that many clubs have, like FC, and without the `L'` of
+    L'Etoile; all if none is left.
+    """
+    every = words_in(ELIDED.sub("", name))
     return [word for word in every if word not in CLUB_WORDS] or every
 
 
@@ -105,7 +112,7 @@ def _is_same(typed: str, name: str) -> bool:
     return plain_form(typed) != "" and plain_form(typed) == plain_form(name)
 
 
-def _is_same_club(typed: str, name: str) -> bool:
+def is_same_club(typed: str, name: str) -> bool:
     """Whether two names are one but for words like FC, and for an umlaut written as two letters."""
     first, second = " ".join(core_words(typed)), " ".join(core_words(name))
     return first != "" and (first == second or _without_umlauts(first) == _without_umlauts(second))
@@ -176,6 +183,47 @@ def _is_spoken_for(word: str, whole: str) -> bool:
         return whole.startswith(word)
     return len(word) > 5 and word.endswith("s") and whole.startswith(word[:-1]) and (
         word[:-1] != whole)
+
+
+KNOWN = known_names(plain_form)
+
+
+def is_well_known(typed: str, name: str) -> bool:
+    """Whether the table of short names has the typed one for a club, of whose name and that of the
+    table one begins the other: Rangers is not Queens Park Rangers, nor Paris FC Paris
+    Saint-Germain.
+    """
+    return any(not (OTHER_TEAMS & set(words_in(name))) and (
+        _begins(core_words(full), core_words(name)) or _begins(words_in(name), words_in(full)))
+        for full in KNOWN.get(plain_form(typed), ()))
+
+
+def _begins(words: list[str], longer: list[str]) -> bool:
+    """Whether the words are the first of the others, or short for them."""
+    return len(words) <= len(longer) and all(map(_is_short_for, words, longer))
+
+
+def _has_initials(typed: str, name: str) -> bool:
+    """Whether the name has these initials: of all words, without words like FC, or with these
+    whole, as in FCB and HSV.
+    """
+    letters = initials_typed(typed)
+    return bool(letters) and letters.upper() in initials_of(name)
+
+
+def initials_of(name: str) -> list[str]:
+    """The initials of a name in capitals, in each of these forms, the shortest first."""
+    words = [word for word in words_in(name) if word != "&"]
+    whole = "".join(word if word in CLUB_WORDS else word[0] for word in words)
+    forms = {"".join(word[0] for word in some) for some in (words, core_words(name))} | {whole}
+    others = CLUB_WORDS | OTHER_TEAMS
+    return sorted((form.upper() for form in forms if len(form) > 1 and form not in others),
+                  key=len) if len(words) > 1 else []
+
+
+WAYS = {"the same name": _is_same, "the same club": is_same_club, "a part of it": _is_part,
+        "more than it": _has_part, "well known": is_well_known, "its initials": _has_initials,
+        "short for it": _is_shortened}
 
 
 def same_name(name: str, names: Iterable[str]) -> str | None:
