@@ -13,7 +13,8 @@ import argparse
 from . import common
 from .files import examine, without_mark
 from .list_settings import settings_in
-from .names import UnknownName, club_of, plain_form, shown, tidy
+from .name_words import plain_form, tidy
+from .names import UnknownName, club_of, shown
 from .records import fields_of
 from .texts import Sheet
 

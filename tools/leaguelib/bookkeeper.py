@@ -9,6 +9,7 @@ from . import common
 from .cleaning import KINDS, OTHER_WORDS
 from .dates import is_same_day
 from .feeds import FeedReader, InputReader
+from .fixtures_by_name import named_fixture
 from .ledger import Ledger
 from .list_settings import MONTH_FIRST, settings_in
 from .match_lines import parts_of
@@ -227,36 +228,8 @@ class Bookkeeper:
         return self.meant[name]
 
     def fixture_of(self, kind: str, match: Match) -> Fixture:
-        """The fixture of a match by names, by its date where the two meet there more than once."""
-        home, away = self.club(match.home), self.club(match.away)
-        found = [one for one in self.sheet.fixtures if (one.home, one.away) == (home, away)]
-        if not found:
-            turned = [one for one in self.sheet.fixtures if (one.home, one.away) == (away, home)]
-            hint = f": they meet as {away} - {home}, fixture {turned[0].number}" if turned else ""
-            raise Unclear(f"the sheet has no match {home} - {away}{hint}")
-        dated = [one for one in found
-                 if match.date and is_same_day(match.date, self.dates.get(one.number, ""))]
-        if len(found) == 1 or len(dated) == 1:
-            return found[0] if len(found) == 1 else dated[0]
-        is_told = bool(match.date) and any(one.number in self.dates for one in found)
-        if match.turn[1] == len(found) and not is_told:
-            return found[match.turn[0]]
-        raise Unclear(self._which(kind, match, found))
-
-    def _which(self, kind: str, match: Match, found: list[Fixture]) -> str:
-        """What to say where two clubs meet more than once with the same one at home."""
-        goals = ""
-        dated = f" None of them is dated {match.date}." if match.date else ""
-        if match.score is not None and kind != "void":
-            goals = f",{match.score[0]},{match.score[1]}"
-        choices = []
-        for one in found:
-            date = self.dates.get(one.number)
-            state = "played" if one.number in self.feed.season.scores else "open"
-            written = f"match {one.number}" if kind == "match" else f"{kind},{one.number}{goals}"
-            choices.append(f"`{written}` ({date + ', ' if date else ''}{state})")
-        return (f"{match.home} - {match.away} comes {len(found)} times in the sheet.{dated} "
-                f"Write the date before it, or one of these: {', '.join(choices)}")
+        """The fixture of a match by names; raises `Unclear` if it is none, or one of several."""
+        return named_fixture(self, kind, match)
 
     def tested(self, line: str) -> str:
         """The line, where the program takes it; raises `Unclear` if it does not."""

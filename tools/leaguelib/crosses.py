@@ -17,7 +17,7 @@ from dataclasses import dataclass
 from .common import Trouble
 from .match_lines import note_told
 from .match_list import Match, MatchList, Passed, Wrong, quoted
-from .names import DASHES, plain_form
+from .name_words import DASHES, plain_form
 from .score_texts import plain_signs, read_score
 from .match_tables import SIGNS, cells_of
 

@@ -7,7 +7,8 @@ from dataclasses import dataclass
 from typing import Iterator
 
 from .cup_words import cup_doubts
-from .names import plain_form, shown, tidy
+from .name_words import plain_form, tidy
+from .names import shown
 from .texts import Entry, Season, Sheet
 
 MANY_GOALS = 15

@@ -9,6 +9,7 @@ from dataclasses import dataclass, field
 from . import common
 from .bookkeeper import Bookkeeper
 from .crosses import cross_of
+from .date_hints import date_hints
 from .match_list import Match, MatchList, quoted
 from .match_tables import SIGNS, head_of
 from .matches import LineReader, is_month_first, lines_in, read_text, text_of
@@ -67,7 +68,7 @@ def all_made(book: Bookkeeper, files: list[tuple[str, bytes]],
     if len(made.notes) > MOST_NOTES:
         made.notes[MOST_NOTES:] = [f"and {len(made.notes) - MOST_NOTES} more matches on another "
                                    "day than in the sheet, or above its goal limit"]
-    made.notes = before + made.notes
+    made.notes = before + made.notes + date_hints(book, lists)
     for found in lists:
         made.notes += found.notes + [text for text in [found.passed_text()] if text]
     for one in given:

@@ -12,7 +12,7 @@ import re
 from dataclasses import dataclass, field
 from typing import Dict, Optional, Tuple
 
-from .names import plain_form
+from .name_words import plain_form
 from .records import lines_of
 
 DAY_FIRST, MONTH_FIRST = "day-first", "month-first"

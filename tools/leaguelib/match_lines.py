@@ -7,11 +7,11 @@ from __future__ import annotations
 import re
 from dataclasses import dataclass, replace
 
+from .awards import plain_awards, without_walkover
 from .dates import MONTH, TIME, WEEKDAY, front_date, with_year
 from .match_list import Match, MatchList, Passed, Wrong
 from .names import shown
-from .score_texts import (AWARD_IN_FRONT, GOALS, HALF_TIME, MARK, NOTED, Told, WALKOVER,
-                          WORDS_OF_AWARD, is_clock, mark_of, plain_signs, read_score,
+from .score_texts import (GOALS, HALF_TIME, MARK, Told, is_clock, mark_of, plain_signs, read_score,
                           running_mark, still_running, with_marks)
 
 ROUND_WORDS = (r"(?:matchday|match day|round|gameweek|game week|week|gw|md|day|spieltag|runde|"
@@ -67,8 +67,7 @@ def parts_of(line: str, is_month_first: bool = False) -> Parts:
         if not TIME.sub("", rest):
             return Parts(None, date=date)
     rest = TIME.sub("", WEEKDAY.sub("", rest, count=1), count=1)
-    rest = AWARD_IN_FRONT.sub(r"\1 awd.", WORDS_OF_AWARD.sub("awd.", NOTED.sub("", rest)))
-    winner, rest = _without_walkover(rest)
+    winner, rest = without_walkover(plain_awards(rest))
     running, rest = running_mark(rest)
     body, marks = _without_tails(VENUE.sub("", rest).strip())
     match, between = _names_of(body)
@@ -80,16 +79,6 @@ def parts_of(line: str, is_month_first: bool = False) -> Parts:
         return Parts(None, date=date, why=told.why)
     told = Told(winner=winner) if winner else told
     return Parts(replace(match, score=told.score, date=date, winner=winner), told, date)
-
-
-def _without_walkover(text: str) -> tuple[str, str]:
-    """The side to which a match is awarded by signs like `+:-`, and the text with a score there."""
-    found = WALKOVER.search(text)
-    if found is None or " " in found.group():
-        return "", text
-    is_home = bool(found.group(1))
-    score = "1-0" if is_home else "0-1"
-    return "home" if is_home else "away", text[:found.start()] + score + text[found.end():]
 
 
 def _without_tails(text: str) -> tuple[str, list[str]]:

@@ -7,7 +7,8 @@ from collections import Counter
 from dataclasses import dataclass, field, replace
 
 from .common import Trouble
-from .names import plain_form, shown
+from .name_words import plain_form
+from .names import shown
 
 GROUP_HEAD = re.compile(r"(?:group|gruppe|grupo|gruppo|groupe|girone|poule)\s+([^\s:|]+)",
                         re.IGNORECASE)

@@ -13,22 +13,11 @@ import re
 import unicodedata
 from typing import Iterable, Mapping
 
-from .short_names import initials_typed, known_names
+from .name_words import (INVISIBLE, OTHER_TEAMS, core_words, is_short_for, plain_form, tidy,
+                         words_in)
+from .short_names import has_initials, is_well_known
 
-INVISIBLE = "\u200b\u200c\u200d\u2060\ufeff\u00ad"
-SPACES = " \t\u00a0\u2007\u202f\u3000" + INVISIBLE
-APOSTROPHES = "'’‘ʼ´`"
-DASHES = "-\u2010\u2011\u2012\u2013\u2014\u2015\u2212\ufe58\ufe63\uff0d"
-LETTERS = str.maketrans({"ø": "o", "Ø": "o", "ł": "l", "Ł": "l", "đ": "d", "Đ": "d", "ı": "i",
-                         "æ": "ae", "Æ": "ae", "œ": "oe", "Œ": "oe", "ð": "d", "þ": "th"})
-CLUB_WORDS = frozenset("fc afc cf sc sv ac as fk sk nk if bk ff cd ud sd club the & and und 1"
-                       .split())
 ALL_CLUBS = "; the clubs are "
-ELIDED = re.compile(rf"\b[ld][{APOSTROPHES}]", re.IGNORECASE)
-OTHER_TEAMS = frozenset("ii iii iv b c 2 3 u17 u18 u19 u20 u21 u23 women ladies girls frauen "
-                        "femenino femminile feminines youth reserves".split())
-
-
 class UnknownName(Exception):
     """A name that means no club, or several: what to say, and the clubs that may be meant."""
 
@@ -36,20 +25,6 @@ class UnknownName(Exception):
         super().__init__(message)
         self.message = message
         self.candidates = candidates
-
-
-def tidy(text: str) -> str:
-    """The text without spaces and invisible signs at its ends."""
-    return text.strip(SPACES)
-
-
-def plain_form(name: str) -> str:
-    """A form in which names are the same that differ in case, accents, spaces or points alone."""
-    opened = unicodedata.normalize("NFKD", name.translate(LETTERS))
-    kept = [sign for sign in opened if not unicodedata.combining(sign) and sign not in INVISIBLE]
-    apart = ".,_/" + APOSTROPHES + DASHES
-    words = "".join(" " if sign in apart else sign for sign in kept).casefold().split()
-    return " ".join(words)
 
 
 def club_of(name: str, names: Iterable[str], aliases: Mapping[str, str] | None = None) -> str:
@@ -95,19 +70,6 @@ def listed_or(names: list[str]) -> str:
     return ", ".join(texts[:-1]) + " or " + texts[-1] if len(texts) > 1 else "".join(texts)
 
 
-def words_in(name: str) -> list[str]:
-    """The words of a name in their plain form; an apostrophe divides none."""
-    return plain_form("".join(sign for sign in name if sign not in APOSTROPHES)).split()
-
-
-def core_words(name: str) -> list[str]:
-    """The words of a name without those that many clubs have, like FC, and without the `L'` of
-    L'Etoile; all if none is left.
-    """
-    every = words_in(ELIDED.sub("", name))
-    return [word for word in every if word not in CLUB_WORDS] or every
-
-
 def _is_same(typed: str, name: str) -> bool:
     return plain_form(typed) != "" and plain_form(typed) == plain_form(name)
 
@@ -142,22 +104,12 @@ def _stand_in(words: list[str], longer: list[str]) -> bool:
     """Whether each word is, in order, one of the others or short for it."""
     place = 0
     for word in words:
-        while place < len(longer) and not _is_short_for(word, longer[place]):
+        while place < len(longer) and not is_short_for(word, longer[place]):
             place += 1
         if place == len(longer):
             return False
         place += 1
     return bool(words)
-
-
-def _is_short_for(word: str, whole: str) -> bool:
-    """Whether a word begins the other, or leaves out letters of its middle, as `Utd` does."""
-    if word == whole or (len(word) > 1 and whole.startswith(word)):
-        return True
-    if len(word) < 3 or len(word) > 0.6 * len(whole):
-        return False
-    letters = iter(whole)
-    return (word[0], word[-1]) == (whole[0], whole[-1]) and all(sign in letters for sign in word)
 
 
 def _is_shortened(typed: str, name: str) -> bool:
@@ -170,7 +122,7 @@ def _is_shortened(typed: str, name: str) -> bool:
         return False
     place = 0
     for word in words:
-        while place < len(core) and not (_is_short_for(word, core[place])
+        while place < len(core) and not (is_short_for(word, core[place])
                                          or _is_spoken_for(word, core[place])):
             place += 1
         place += 1
@@ -185,44 +137,8 @@ def _is_spoken_for(word: str, whole: str) -> bool:
         word[:-1] != whole)
 
 
-KNOWN = known_names(plain_form)
-
-
-def is_well_known(typed: str, name: str) -> bool:
-    """Whether the table of short names has the typed one for a club, of whose name and that of the
-    table one begins the other: Rangers is not Queens Park Rangers, nor Paris FC Paris
-    Saint-Germain.
-    """
-    return any(not (OTHER_TEAMS & set(words_in(name))) and (
-        _begins(core_words(full), core_words(name)) or _begins(words_in(name), words_in(full)))
-        for full in KNOWN.get(plain_form(typed), ()))
-
-
-def _begins(words: list[str], longer: list[str]) -> bool:
-    """Whether the words are the first of the others, or short for them."""
-    return len(words) <= len(longer) and all(map(_is_short_for, words, longer))
-
-
-def _has_initials(typed: str, name: str) -> bool:
-    """Whether the name has these initials: of all words, without words like FC, or with these
-    whole, as in FCB and HSV.
-    """
-    letters = initials_typed(typed)
-    return bool(letters) and letters.upper() in initials_of(name)
-
-
-def initials_of(name: str) -> list[str]:
-    """The initials of a name in capitals, in each of these forms, the shortest first."""
-    words = [word for word in words_in(name) if word != "&"]
-    whole = "".join(word if word in CLUB_WORDS else word[0] for word in words)
-    forms = {"".join(word[0] for word in some) for some in (words, core_words(name))} | {whole}
-    others = CLUB_WORDS | OTHER_TEAMS
-    return sorted((form.upper() for form in forms if len(form) > 1 and form not in others),
-                  key=len) if len(words) > 1 else []
-
-
 WAYS = {"the same name": _is_same, "the same club": is_same_club, "a part of it": _is_part,
-        "more than it": _has_part, "well known": is_well_known, "its initials": _has_initials,
+        "more than it": _has_part, "well known": is_well_known, "its initials": has_initials,
         "short for it": _is_shortened}
 
 

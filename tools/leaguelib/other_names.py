@@ -11,10 +11,11 @@ from . import common
 from .aliases import add_alias_argument, chosen_club, read_aliases
 from .bookkeeper import Bookkeeper
 from .list_settings import NAME, settings_in
-from .names import (KNOWN, UnknownName, WAYS, club_of, initials_of, is_same_club, is_well_known,
-                    plain_form, shown, tidy)
+from .name_words import plain_form, tidy
+from .names import UnknownName, WAYS, club_of, is_same_club, shown
 from .records import record_of
 from .several import file_name
+from .short_names import KNOWN, initials_of, is_well_known
 from .texts import Sheet
 from .wording import shown as printed
 

@@ -18,7 +18,8 @@ from typing import TYPE_CHECKING, Callable
 
 from .deductions import credited, deducted
 from .ledger import NO_DAY, WITHDREW, awarded_line, new_date_line
-from .names import plain_form, same_name
+from .name_words import plain_form
+from .names import same_name
 from .records import MOST_LINE_BYTES, fields_of
 from .ruled_matches import fixture_of, match_of, names_of, with_day
 from .slips import Known, Unclear, played_text, why_open

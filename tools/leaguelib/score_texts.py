@@ -6,14 +6,13 @@ import re
 from dataclasses import dataclass
 
 from .dates import MONTHS, folded
-from .names import DASHES, SPACES
+from .name_words import DASHES, SPACES
 
 GOALS = r"(0|[1-9]\d?)\s?[-:x]\s?(0|[1-9]\d?)"
 SCORE = re.compile(r"^" + GOALS + r"(?![\d:-])\s*")
 HALF_TIME = re.compile(r"^[(\[]?\s*(?:ht:?\s*)?\d{1,2}\s?[-:]\s?\d{1,2}"
                        r"(?:\s*[,;/]\s*\d{1,2}\s?[-:]\s?\d{1,2})*\s*[)\]]?$")
 FOOTNOTE = re.compile(r"(?:\[[a-z0-9 ]{1,6}\]|[*†‡])+$")
-NOTED = re.compile(r"(?<=\d)(?:\s?\[[a-z0-9]{1,3}\]|[*†‡])+(?=\s|$)", re.IGNORECASE)
 WALKOVER = re.compile(r"(?:(?<=\s)|^)(?:([+x])\s?[:-]\s?[-–—−0]|[-–—−0]\s?[:-]\s?[+x])(?=\s|$)",
                       re.IGNORECASE)
 CLOCK = re.compile(r"^(?:[01]?\d|2[0-3])[:.h][0-5]\d(?:\s?(?:uhr|hs?|[ap]m))?$")
@@ -49,10 +48,6 @@ RUNNING = re.compile(
     rf"|^(?:half[- ]?time|ht)(?=\s)|(?<=\d)\s+(?!live){BREAK}(?=\s+[^\W\d]))", re.IGNORECASE)
 
 
-WORDS_OF_AWARD = re.compile(r"(?<=\s)(?:a tavolino|tap\.? verde|tapis vert|by forfeit|"
-                            r"par forfait)(?=\s|$)", re.IGNORECASE)
-AWARD_IN_FRONT = re.compile(r"(?<=\s)(?:w\.o\.?|w/o|walkover|awd\.?|awarded|wertung|forfait|"
-                            r"forfeit|tavolino):?\s+(" + GOALS + r")(?=\s|$)", re.IGNORECASE)
 PARTS = re.compile(r"\([^)]*\)|\[[^\]]*\]|(?:%s)(?=\s|$)|[^\s()\[\]]+" % "|".join(
     re.escape(word) for word in sorted(AWARDED) if " " in word), re.IGNORECASE)
 LEADING = re.compile(r"^(%s)\.?:?\s+(\d.*)$" % "|".join(sorted(map(re.escape, AWARDED), key=len,

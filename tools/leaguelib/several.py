@@ -12,7 +12,7 @@ from . import common
 from .dates import is_same_day
 from .match_list import Match, MatchList
 from .matches import read_matches, renamed
-from .names import plain_form
+from .name_words import plain_form
 
 FULL_DATE = re.compile(r"^\d{4}-\d{2}-\d{2}$")
 

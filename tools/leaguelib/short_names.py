@@ -5,7 +5,8 @@ the sheet can be meant; `league names` shows them and adds others.
 from __future__ import annotations
 
 import re
-from typing import Tuple
+
+from .name_words import (CLUB_WORDS, OTHER_TEAMS, core_words, is_short_for, plain_form, words_in)
 
 # the short name, and after the sign the names by which the club may stand in a sheet
 TABLE = """\
@@ -82,14 +83,43 @@ drc = DR Congo
 INITIALS = re.compile(r"^[^\W\d_](?:\.?[^\W\d_]){1,5}\.?$")
 
 
-def known_names(plain_form) -> dict[str, Tuple[str, ...]]:
+def _known_names() -> dict[str, tuple[str, ...]]:
     """The names of clubs by the plain form of a short name."""
     rows = [line.split(" = ") for line in TABLE.splitlines()]
     return {plain_form(short): tuple(full.split(", ")) for short, full in rows}
 
 
-def initials_typed(typed: str) -> str:
-    """The letters of a name that is written as initials, like QPR or Q.P.R.; nothing if it is not.
+KNOWN = _known_names()
+
+
+def is_well_known(typed: str, name: str) -> bool:
+    """Whether the table of short names has the typed one for a club, of whose name and that of the
+    table one begins the other: Rangers is not Queens Park Rangers, nor Paris FC Paris
+    Saint-Germain.
+    """
+    return any(not (OTHER_TEAMS & set(words_in(name))) and (
+        _begins(core_words(full), core_words(name)) or _begins(words_in(name), words_in(full)))
+        for full in KNOWN.get(plain_form(typed), ()))
+
+
+def _begins(words: list[str], longer: list[str]) -> bool:
+    """Whether the words are the first of the others, or short for them."""
+    return len(words) <= len(longer) and all(map(is_short_for, words, longer))
+
+
+def has_initials(typed: str, name: str) -> bool:
+    """Whether the name has these initials: of all words, without words like FC, or with these
+    whole, as in FCB and HSV.
     """
     letters = typed.replace(".", "")
-    return letters.casefold() if INITIALS.match(typed) and letters.isupper() else ""
+    return bool(INITIALS.match(typed)) and letters.isupper() and letters in initials_of(name)
+
+
+def initials_of(name: str) -> list[str]:
+    """The initials of a name in capitals, in each of these forms, the shortest first."""
+    words = [word for word in words_in(name) if word != "&"]
+    whole = "".join(word if word in CLUB_WORDS else word[0] for word in words)
+    forms = {"".join(word[0] for word in some) for some in (words, core_words(name))} | {whole}
+    others = CLUB_WORDS | OTHER_TEAMS
+    return sorted((form.upper() for form in forms if len(form) > 1 and form not in others),
+                  key=len) if len(words) > 1 else []

@@ -30,6 +30,7 @@ def check_week(counter: Counter) -> None:
         _check_rounds(counter, sheet)
         _check_walkovers(counter, sheet)
         _check_days(counter, sheet)
+        _check_hints(counter, sheet)
     _check_long_names(counter)
 
 
@@ -131,6 +132,28 @@ def _check_days(counter: Counter, sheet: Path) -> None:
         run, 0, "1 result added"))
     shown = called("sheet", "-", *MADE, data=games.replace("05/04", "15/04").encode("utf-8"))
     counter.check("week: days that the list tells are kept", said(shown, 0, "# days: day-first\n"))
+    sheet.write_bytes(kept)
+
+
+def _check_hints(counter: Counter, sheet: Path) -> None:
+    """Dates of open matches that a list has otherwise than the sheet are said, not taken."""
+    games = "2026-03-01 Gull - Tern\n2026-03-02 Tern - Gull\n"
+    kept = sheet.read_bytes()
+    sheet.write_bytes(called("sheet", "-", *MADE, data=games.encode("utf-8")).stdout)
+    for text, says in (
+            ("2026-03-01 Gull - Tern verl.\n", "1 open match is marked as postponed and kept on the "
+             "day of the sheet: `postpone Gull - Tern` takes it from there"),
+            ("2026-05-01 Gull - Tern\n2026-05-02 Tern - Gull\n", "2 open matches are on another day in "
+             "the list: `postpone Gull - Tern 2026-05-01` takes it; so with the other")):
+        run = called("feed", sheet, data=text.encode("utf-8"))
+        counter.check(f"week: a hint at {text!r}", _wrote(run, "") + said(run, 0, says))
+    moved = "postpone Gull - Tern\npostpone Tern - Gull 2026-05-02\n".encode("utf-8")
+    log = sheet.with_name("moved.csv")
+    log.write_bytes(called("feed", sheet, data=moved).stdout)
+    for text in ("2026-03-01 Gull - Tern verl.\n", "2026-05-02 Tern - Gull\n"):
+        run = called("feed", sheet, "--log", log, data=text.encode("utf-8"))
+        counter.check(f"week: no hint at {text!r}", _wrote(run, "") + (
+            [run.stderr.decode()] if b"postpone" in run.stderr.replace(b"postponed", b"") else []))
     sheet.write_bytes(kept)
 
 
