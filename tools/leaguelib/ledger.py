@@ -36,12 +36,11 @@ class Ledger:
     def pass_over(self, comment: str) -> None:
         """Takes a line that is no record."""
         date, award = NEW_DATE.match(comment), AWARDED.match(comment)
-        if UNDO_IN_FRONT.match(comment):
-            self._is_undoing = True
-        elif date:
+        if date:
             self._note(self.moves.setdefault(int(date.group(1)), [OF_SHEET]), date.group(2))
         elif award:
             self.awards[int(award.group(1))] = award.group(2)
+        self._is_undoing = bool(UNDO_IN_FRONT.match(comment))
 
     def note(self, entry: Entry) -> None:
         """Takes a record of the feed that was read."""

@@ -9,7 +9,7 @@ import argparse
 
 from . import common
 from .cleaning import KINDS, cleaned_steps
-from .doubts import Doubt, feed_doubts, sheet_doubts
+from .doubts import Doubt, day_doubts, feed_doubts, sheet_doubts
 from .feeds import Input, InputReader, read_input
 from .files import examine, joined
 from .findings import Finding, Outcome, capital, outcome_text
@@ -114,6 +114,7 @@ def look(data: bytes, is_sheet_only: bool = False, mode: str | None = None) -> O
     _test_end(reader, count_lines(data), outcome)
     if reader.sheet is not None:
         outcome.doubts.extend(sheet_doubts(reader.sheet, mode == "table"))
+        outcome.doubts.extend(day_doubts(data, reader.sheet))
         if reader.feed_reader is not None and not is_sheet_only:
             question = {"whatif": "when", "save": ""}.get(mode, "ask")
             outcome.doubts.extend(feed_doubts(reader.sheet, entries, question))

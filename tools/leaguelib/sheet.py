@@ -107,6 +107,7 @@ def _run_cup(arguments: argparse.Namespace) -> int:
                              common.BAD_WORDS)
     _test_rounds(arguments)
     found, groups = cup_groups(arguments)
+    arguments.days = arguments.days or found.days
     name = arguments.name or found.title
     if not name:
         raise common.Trouble("what is the cup called? Say --name \"NAME\"", common.BAD_WORDS)

@@ -77,6 +77,9 @@ TAKEN = (
     ("fewer points in all", "deduct,Köln 07,6\n", "deduct Köln 0 in all", "deduct,Köln 07,0\n"),
     ("undo of a deduction", "deduct,Köln 07,6\ndeduct,Köln 07,9\n", "undo deduct Köln",
      "# undo: deduct Köln\ndeduct,Köln 07,6\n"),
+    ("undo after an undo that was of a score in play", "deduct,Köln 07,6\n# in play: 2,1,0\n# undo\n"
+     "# in play: 2,none\ndeduct,Köln 07,9\n", "undo deduct Köln",
+     "# undo: deduct Köln\ndeduct,Köln 07,6\n"),
     ("undo once more", "deduct,Köln 07,6\ndeduct,Köln 07,9\n# undo: deduct Köln\n"
      "deduct,Köln 07,6\n", "undo deduct Köln 07", "# undo: deduct Köln 07\ndeduct,Köln 07,0\n"),
 )
@@ -144,8 +147,19 @@ def check_rulings(counter: Counter) -> None:
             b"# new date: 1,2026-03-04 (") else [str(other)])
         counter.check("ruling: a record that replaces a total", said(
             run, 0, "line 1: Dock United had 6 points off, and has 3 in all now"))
+    _check_lint(counter)
     _check_tonight(counter)
     _check_live(counter)
+
+
+def _check_lint(counter: Counter) -> None:
+    """A new date in a form that nothing goes by is told."""
+    for line, is_told in (("# new date: 3,2026-05-13", False), ("# new date: 3,none (x)", False),
+                          ("# new date: 9,2026-05-13", True), ("# new date: 3,13.05.2026", True),
+                          ("# New date 3,2026-05-13", True)):
+        run = called("lint", "-", data=f"{SHEET}{line}\nask\n".encode("utf-8"))
+        counter.check(f"lint: {line}", [] if (b"counts for nothing" in run.stdout) == is_told
+                      else [run.stdout.decode("utf-8")])
 
 
 def _check_tonight(counter: Counter) -> None:
