@@ -107,11 +107,10 @@ class Bookkeeper:
 
     def take_line(self, line: str, record: Record | None) -> None:
         """Takes a line of the feed, which is a record or a comment."""
-        if record is None:
-            self.ledger.pass_over(line)
-            self.dates = moved(self._dates_of_sheet, self.ledger.days())
-        else:
+        if record is not None:
             self.ledger.note(self.feed.take(record))
+        elif self.ledger.pass_over(line):
+            self.dates = moved(self._dates_of_sheet, self.ledger.days())
 
     def is_order(self, text: str) -> bool:
         """Whether a line is one of the feed, or a correction, an annulment or a ruling by names."""

@@ -3,7 +3,7 @@
     # new date: 57,2026-05-13 (Ararat - Beograd)    match 57 is on that day now
     # new date: 57,none (..)                        no day is known for it
     # new date: 57,sheet (..)                       it is on the day of the sheet again
-    # awarded: 57 (Ararat - Beograd; REASON)        the score right below was awarded
+    # awarded: 57,Ararat - Beograd; REASON          the score right below was awarded
     # undo: ..                                      the line below takes back the one before
 """
 
@@ -16,7 +16,7 @@ from .sheet_dates import NEW_DATE
 from .texts import Entry, Fixture
 
 UNDO_IN_FRONT = re.compile(r"^#\s*undo\b")
-AWARDED = re.compile(r"^#\s*awarded:\s*(\d{1,6})\s*\((.*)\)\s*$")
+AWARDED = re.compile(r"^#\s*awarded:\s*(\d{1,6})\s*,\s*(.*)$")
 OF_SHEET, NO_DAY = "sheet", "none"
 WITHDREW = "{} withdrew"
 
@@ -33,14 +33,15 @@ class Ledger:
         self.awards: Dict[int, str] = {}
         self._is_undoing = False
 
-    def pass_over(self, comment: str) -> None:
-        """Takes a line that is no record."""
+    def pass_over(self, comment: str) -> bool:
+        """Takes a line that is no record; whether it moves a match."""
         date, award = NEW_DATE.match(comment), AWARDED.match(comment)
         if date:
             self._note(self.moves.setdefault(int(date.group(1)), [OF_SHEET]), date.group(2))
         elif award:
             self.awards[int(award.group(1))] = award.group(2)
         self._is_undoing = bool(UNDO_IN_FRONT.match(comment))
+        return bool(date)
 
     def note(self, entry: Entry) -> None:
         """Takes a record of the feed that was read."""
@@ -81,7 +82,7 @@ def new_date_line(fixture: Fixture, day: str, reason: str = "") -> str:
 
 def awarded_line(fixture: Fixture, reason: str = "") -> str:
     """The comment above a score that was awarded."""
-    return f"# awarded: {fixture.number} ({_about(fixture, reason)})"
+    return f"# awarded: {fixture.number},{_about(fixture, reason)}"
 
 
 def _about(fixture: Fixture, reason: str) -> str:

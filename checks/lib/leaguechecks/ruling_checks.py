@@ -31,7 +31,7 @@ season
 """
 PLAYED = "result,2,2,1\n"
 MOVED = "# new date: 3,2026-05-13 (Dock United - Anchor)\n"
-AWARD = "# awarded: 2 (Köln 07 - Dock United; ineligible player)\n"
+AWARD = "# awarded: 2,Köln 07 - Dock United; ineligible player\n"
 # the feed so far, what is typed, and what comes after the feed
 TAKEN = (
     ("a new date", "", "postpone Dock - Anchor 2026-05-13", MOVED),
@@ -51,7 +51,7 @@ TAKEN = (
      "# undo: postpone Dock - Anchor 2026-05-20\n" + MOVED),
     ("an award", "", "award Köln 0-3 Dock: ineligible player", AWARD + "result,2,0,3\n"),
     ("an award by number", "", "award match 4 3:0 (forfeit)",
-     "# awarded: 4 (Anchor - Köln 07; forfeit)\nresult,4,3,0\n"),
+     "# awarded: 4,Anchor - Köln 07; forfeit\nresult,4,3,0\n"),
     ("an award of a played match", PLAYED, "award Köln 0-3 Dock (ineligible player)",
      AWARD + "fix,2,0,3\n"),
     ("undo of an award", AWARD + "result,2,0,3\n", "undo award Köln - Dock",
@@ -63,8 +63,8 @@ TAKEN = (
     ("undo of an annulment", PLAYED + "void,2\n", "undo annul Köln - Dock",
      "# undo: annul Köln - Dock\nresult,2,2,1\n"),
     ("a club that withdraws", PLAYED, "withdraw Dock 0-3",
-     "# awarded: 3 (Dock United - Anchor; Dock United withdrew)\nresult,3,0,3\n"),
-    ("undo of a withdrawal", PLAYED + "# awarded: 3 (Dock United - Anchor; Dock United withdrew)\n"
+     "# awarded: 3,Dock United - Anchor; Dock United withdrew\nresult,3,0,3\n"),
+    ("undo of a withdrawal", PLAYED + "# awarded: 3,Dock United - Anchor; Dock United withdrew\n"
      "result,3,0,3\n", "undo withdraw Dock", "# undo: withdraw Dock United\nvoid,3\n"),
     ("a deduction with why", "", "deduct Köln 6: late fees",
      "# deducted: Köln 07, 6 (late fees)\ndeduct,Köln 07,6\n"),
@@ -190,7 +190,7 @@ def _check_live(counter: Counter) -> None:
             "Dock United: 2 points deducted in all (before: 3)"))
         wanted = ("# new date: 2,2026-05-13 (Köln - Dock United)\n# undo\n"
                   "# new date: 2,sheet (Köln - Dock United)\n"
-                  "# awarded: 1 (Anchor - Köln; forfeit)\nresult,1,3,0\ndeduct,Dock United,2\n"
+                  "# awarded: 1,Anchor - Köln; forfeit\nresult,1,3,0\ndeduct,Dock United,2\n"
                   "deduct,Dock United,3\n# undo: deduct Dock\ndeduct,Dock United,2\n")
         counter.check("evening: the log of rulings",
                       [] if evening.kept() == wanted else [evening.kept()])
