@@ -193,6 +193,9 @@ class Bookkeeper:
         fixture = self.fixture_of(kind, match)
         if kind == "result" and fixture.number in self.feed.season.scores:
             raise self._changed(fixture, match.score)
+        if kind == "fix" and self.feed.season.scores.get(fixture.number) == match.score:
+            raise Known(f"{fixture.home} - {fixture.away} has the score {match.score[0]}-"
+                        f"{match.score[1]} already")
         date = self.dates.get(fixture.number, "")
         if match.date and date and not is_same_day(match.date, date):
             self.notes.append(f"the sheet has {fixture.home} - {fixture.away} on {date}, and not "

@@ -38,11 +38,15 @@ def deducted(book: "Bookkeeper", body: str, reason: str) -> list[str]:
     if before and whole == before:
         raise Known(f"{club} has {counted(before, 'point')} off already, and this line changes "
                     f"nothing; {more}")
+    ruling = f"{club}, {points}{' more' if is_more else ''}" + (f" ({reason})" if reason else "")
+    if is_more and ruling in book.ledger.ruled.get(club, []):
+        raise Known(f"this line stands already, and {club} has {counted(before, 'point')} off in "
+                    f"all; if it is another ruling, write `deduct {club} {whole} in all`")
     if before and not is_more and not found["whole"]:
         raise Unclear(f"{club} has {counted(before, 'point')} off already: {more}, `deduct {club} "
                       f"{points} in all` makes it {points}")
-    comment = [f"# deducted: {club}, {points}{' more' if is_more else ''} ({reason})"]
-    return comment * bool(reason) + [book.tested(row_text("deduct", club, whole).rstrip("\n"))]
+    comment = [f"# deducted: {ruling}"] if is_more or reason else []
+    return comment + [book.tested(row_text("deduct", club, whole).rstrip("\n"))]
 
 
 def credited(book: "Bookkeeper", body: str, reason: str) -> list[str]:

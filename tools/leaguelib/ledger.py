@@ -4,6 +4,7 @@
     # new date: 57,none (..)                        no day is known for it
     # new date: 57,sheet (..)                       it is on the day of the sheet again
     # awarded: 57,Ararat - Beograd; REASON          the score right below was awarded
+    # deducted: Ararat, 3 more (REASON)             how the points right below were ruled
     # undo: ..                                      the line below takes back the one before
 """
 
@@ -17,6 +18,7 @@ from .texts import Entry, Fixture
 
 UNDO_IN_FRONT = re.compile(r"^#\s*undo\b")
 AWARDED = re.compile(r"^#\s*awarded:\s*(\d{1,6})\s*,\s*(.*)$")
+DEDUCTED = re.compile(r"^#\s*deducted:\s*(.*\S)\s*$")
 OF_SHEET, NO_DAY = "sheet", "none"
 WITHDREW = "{} withdrew"
 
@@ -31,11 +33,15 @@ class Ledger:
         self.scores: Dict[int, List[Score]] = {}
         self.deductions: Dict[str, List[int]] = {}
         self.awards: Dict[int, str] = {}
+        self.ruled: Dict[str, List[str]] = {}
+        self._ruling = ""
         self._is_undoing = False
 
     def pass_over(self, comment: str) -> bool:
         """Takes a line that is no record; whether it moves a match."""
         date, award = NEW_DATE.match(comment), AWARDED.match(comment)
+        deducted = DEDUCTED.match(comment)
+        self._ruling = deducted.group(1) if deducted else ""
         if date:
             self._note(self.moves.setdefault(int(date.group(1)), [OF_SHEET]), date.group(2))
         elif award:
@@ -46,12 +52,21 @@ class Ledger:
     def note(self, entry: Entry) -> None:
         """Takes a record of the feed that was read."""
         if entry.kind == "deduct":
+            self._note_ruling(self.ruled.setdefault(entry.club, []))
             self._note(self.deductions.setdefault(entry.club, [0]), entry.points)
         elif entry.is_event:
             if self._is_undoing:
                 self.awards.pop(entry.fixture, None)
             score = None if entry.kind == "void" else entry.score
             self._note(self.scores.setdefault(entry.fixture, [None]), score)
+
+    def _note_ruling(self, ruled: List[str]) -> None:
+        """Keeps the words of a deduction, or drops those of the last one where it is taken back."""
+        if not self._is_undoing:
+            ruled.append(self._ruling)
+        elif ruled:
+            ruled.pop()
+        self._ruling = ""
 
     def _note(self, stood: list, value: Union[str, int, Score]) -> None:
         """Keeps what stands now; what was taken back goes."""

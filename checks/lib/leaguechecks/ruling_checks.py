@@ -70,9 +70,15 @@ TAKEN = (
      "# deducted: Köln 07, 6 (late fees)\ndeduct,Köln 07,6\n"),
     ("points from", "", "deduct 2 points from Köln 07", "deduct,Köln 07,2\n"),
     ("of a club with a number", "", "deduct Köln 07 2", "deduct,Köln 07,2\n"),
-    ("more points", "deduct,Köln 07,6\n", "deduct Köln 3 more", "deduct,Köln 07,9\n"),
-    ("more points, points from", "deduct,Köln 07,6\n", "deduct 3 more points from Köln",
-     "deduct,Köln 07,9\n"),
+    ("more points", "deduct,Köln 07,6\n", "deduct Köln 3 more",
+     "# deducted: Köln 07, 3 more\ndeduct,Köln 07,9\n"),
+    ("more points, points from", "deduct,Köln 07,6\n", "deduct 3 more points from Köln: fees",
+     "# deducted: Köln 07, 3 more (fees)\ndeduct,Köln 07,9\n"),
+    ("more points for another reason", "# deducted: Köln 07, 3 more (fees)\ndeduct,Köln 07,9\n",
+     "deduct Köln 3 more", "# deducted: Köln 07, 3 more\ndeduct,Köln 07,12\n"),
+    ("more points once more after an undo", "# deducted: Köln 07, 3 more\ndeduct,Köln 07,9\n# undo: x\n"
+     "deduct,Köln 07,6\n", "deduct Köln 3 more",
+     "# deducted: Köln 07, 3 more\ndeduct,Köln 07,9\n"),
     ("points in all", "deduct,Köln 07,6\n", "deduct Köln 9 points in all", "deduct,Köln 07,9\n"),
     ("fewer points in all", "deduct,Köln 07,6\n", "deduct Köln 0 in all", "deduct,Köln 07,0\n"),
     ("undo of a deduction", "deduct,Köln 07,6\ndeduct,Köln 07,9\n", "undo deduct Köln",
@@ -114,6 +120,10 @@ REFUSED = (
     ("the same deduction", "deduct,Köln 07,6\n", "deduct Köln 6", 0,
      "Köln 07 has 6 points off already, and this line changes nothing; `deduct Köln 07 6 more` "
      "makes it 12"),
+    ("the same more points", "# deducted: Köln 07, 3 more\ndeduct,Köln 07,9\n", "deduct Köln 3 more",
+     0, "this line stands already, and Köln 07 has 9 points off in all; if it is another ruling, "
+     "write `deduct Köln 07 12 in all`"),
+    ("the same correction", PLAYED, "correct Köln 2-1 Dock", 0, "has the score 2-1 already"),
     ("a sign", "", "deduct Dock -3", 2, "without a sign: `deduct Dock United 3`. futmax knows no "
      "points that a club brings with it. If Dock United has 3, take 3 off each of the other 2 "),
     ("points brought forward", "", "credit Dock 3", 2, "take 3 off each of the other 2 clubs"),
@@ -191,7 +201,7 @@ def _check_live(counter: Counter) -> None:
         wanted = ("# new date: 2,2026-05-13 (Köln - Dock United)\n# undo\n"
                   "# new date: 2,sheet (Köln - Dock United)\n"
                   "# awarded: 1,Anchor - Köln; forfeit\nresult,1,3,0\ndeduct,Dock United,2\n"
-                  "deduct,Dock United,3\n# undo: deduct Dock\ndeduct,Dock United,2\n")
+                  "# deducted: Dock United, 1 more\ndeduct,Dock United,3\n# undo: deduct Dock\ndeduct,Dock United,2\n")
         counter.check("evening: the log of rulings",
                       [] if evening.kept() == wanted else [evening.kept()])
         run = evening.run("deduct Dock 5\n", "deduct,Dock United,2\n")
