@@ -11,6 +11,7 @@ from . import common
 from .aliases import add_alias_argument, chosen_club, read_aliases
 from .bookkeeper import Bookkeeper
 from .list_settings import NAME, settings_in
+from .many_asks import front_of
 from .name_words import plain_form, tidy
 from .names import UnknownName, WAYS, club_of, is_same_club, shown
 from .records import record_of
@@ -22,7 +23,7 @@ from .wording import shown as printed
 
 def add_arguments(parser: argparse.ArgumentParser) -> None:
     """The words of `league names`."""
-    parser.add_argument("sheet", metavar="SHEET", help="the sheet")
+    parser.add_argument("sheet", metavar="SHEET", help="the sheet, or a file that begins with it")
     parser.add_argument("names", nargs="*", metavar="NAME", help="say which club this name means")
     parser.add_argument("--set", action="append", default=[], metavar="NAME=CLUB",
                         help="keep another name of a club in the sheet; once for each")
@@ -34,7 +35,7 @@ def add_arguments(parser: argparse.ArgumentParser) -> None:
 def run(arguments: argparse.Namespace) -> int:
     """Shows names, or keeps some."""
     data = common.read_bytes(arguments.sheet)
-    sheet = Bookkeeper(data, sheet_name=file_name(arguments.sheet)).sheet
+    sheet = Bookkeeper(front_of(data), sheet_name=file_name(arguments.sheet)).sheet
     if arguments.set or arguments.forget:
         if arguments.sheet == "-" or arguments.names:
             raise common.Trouble("--set and --forget change the file SHEET: name it alone",

@@ -107,6 +107,7 @@ def _awarded(book: "Bookkeeper", body: str, reason: str) -> list[str]:
 def _cancelled(book: "Bookkeeper", body: str, reason: str) -> list[str]:
     """A match that will not be played and gives nobody anything."""
     fixture = fixture_of(book, body, "cancel Ararat - Beograd")
+    # a record of the feed for this is taken as soon as FEED_WIDTHS has it
     if "cancel" in FEED_WIDTHS:
         return [f"# {reason}"] * bool(reason) + [book.tested(f"cancel,{fixture.number}")]
     names = names_of(fixture)

@@ -115,6 +115,9 @@ def check_short_names(counter: Counter, sheet: Path) -> None:
                                 (["--forget", "X"], 1, "the sheet keeps no name `X`")):
         counter.check(f"names: {words}", said(called("names", sheet, *words), status, says) + (
             [] if sheet.read_text("utf-8") == kept else ["the sheet was changed"]))
+    whole = kept + "result,1,2,1\nask\n"
+    counter.check("names: a file with its feed", said(
+        called("names", "-", "Hoops", data=whole.encode("utf-8")), 0, "Hoops: Queens Park Rangers"))
     called("names", sheet, "--forget", "hoops", "--forget", "les bleus")
     counter.check("names: forgotten", [] if sheet.read_text("utf-8") == text else
                   [sheet.read_text("utf-8")])
