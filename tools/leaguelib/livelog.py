@@ -12,7 +12,7 @@ import os
 import time
 from typing import BinaryIO
 
-from . import common
+from . import common, writing
 
 PATIENCE_SECONDS = 1.0
 GLANCE_SECONDS = 0.02
@@ -53,10 +53,10 @@ class LiveLog:
         """Notes a line, from 1, that is no line of a feed: whoever takes it out changes nothing."""
         self._refused.add(line)
 
-    def append(self, line: str) -> None:
-        """Adds a line, down to the disk; it is taken with the next `grown`."""
+    def append(self, *lines: str) -> None:
+        """Adds lines, down to the disk, all or none; they are taken with the next `grown`."""
         self._wait_for_line_end()
-        self._write(line.encode("utf-8", "surrogateescape") + b"\n")
+        self._write(b"".join(line.encode("utf-8", "surrogateescape") + b"\n" for line in lines))
 
     def grown(self) -> list[str]:
         """The whole lines that stand after those taken so far, whoever wrote them."""
@@ -119,9 +119,7 @@ class LiveLog:
             return b""
 
     def _write(self, data: bytes) -> None:
-        self._file.write(data)
-        self._file.flush()
-        os.fsync(self._file.fileno())
+        writing.append(self.path, data)
 
     def _stamp_now(self) -> tuple[int, ...]:
         """What changes when the file does."""
@@ -146,9 +144,9 @@ class LiveLog:
         old, beside = self.path, _free_name(self.path + BESIDE)
         self._file.close()
         self.known, self._refused = self._mended(), set()
+        writing.replace(beside, self.known)
         self._file = _opened(beside)
         self.path = beside
-        self._write(self.known)
         self._stamp = self._stamp_now()
         self.notes.append(f"{old}: another program changed or removed lines of it. Nothing is "
                           f"lost: all that was taken is in {beside}, which is the log "
@@ -172,6 +170,7 @@ def _opened(path: str) -> BinaryIO:
         fcntl.flock(file, fcntl.LOCK_EX | fcntl.LOCK_NB)
     except OSError as fault:
         file.close()
-        raise common.Trouble(f"{path}: another `league live` keeps this log",
+        raise common.Trouble(f"{path}: another `league live` keeps this log. Type there, or wait "
+                             "for its end",
                              common.CANNOT_WRITE) from fault
     return file

@@ -138,6 +138,12 @@ class Live:
             self.is_refused = not unclear.offers_undo
             self.voice.refused(f"line {self.typed}, {quoted(text.strip())}: refused, not sent: "
                                f"{unclear.message}")
+        except common.Trouble as trouble:
+            if trouble.status != common.CANNOT_WRITE:
+                raise
+            self.refused += 1
+            self.voice.refused(f"line {self.typed}, {quoted(text.strip())}: not kept, not sent: "
+                               f"{trouble.message}. Make room, and type it again")
         return False
 
     def _keep(self, line: str | None) -> None:
@@ -155,8 +161,7 @@ class Live:
         lines = self.evening.back()
         if not lines:
             raise Unclear("there is nothing to take back")
-        for line in lines:
-            self.log.append(line)
+        self.log.append(*lines)
         self.take_in(own=lines[-1])
 
     def take_in(self, before: object = None, own: str | None = None) -> bool:
