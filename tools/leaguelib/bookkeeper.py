@@ -14,6 +14,7 @@ from .names import UnknownName, club_of
 from .records import Record, Refused, count_lines, record_of, records_of, row_text
 from .refusals import advise
 from .sheet_dates import dates_of
+from .sheet_marks import test_marks
 from .slips import above_limit, played_text, why_open
 from .texts import Fixture, Sheet
 from .words import words_for
@@ -47,6 +48,7 @@ class Bookkeeper:
         self.notes: list[str] = []
         self.forms = "`league feed --help`"
         self._read_sheet(sheet, sheet_name)
+        test_marks([(sheet_name, sheet), (log_name, log)])
         self._read_log(log, log_name)
         self.dates = dates_of(sheet, self.sheet)
 

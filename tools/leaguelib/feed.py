@@ -28,6 +28,7 @@ from .match_lines import HINT
 from .match_list import MOST_WRONG
 from .names import ALL_CLUBS
 from .records import records_of
+from .sheet_marks import missing_mark, unmarked_text
 from .several import file_name
 
 
@@ -76,11 +77,16 @@ def _enter(arguments: argparse.Namespace, sheet: bytes, aliases: dict[str, str],
         made.lines.append("ask")
     elif arguments.ask:
         common.say(f"league: nothing is new, and {arguments.log} ends with an `ask` already")
-    text = "".join(line + "\n" for line in made.lines)
-    if arguments.append:
+    # a new feed has its mark even if nothing was played so far
+    mark = missing_mark(book.sheet, log or b"") if made.lines or log is None else []
+    if mark and unmarked_text([(arguments.log or "", log or b"")]):
+        common.say(f"league: {arguments.log} had no mark of its sheet, and gets one now. Whether "
+                   "its earlier results are of these matches, look at by `league table`")
+    text = "".join(line + "\n" for line in mark + made.lines)
+    if arguments.append and text:
         gap = "\n" if log and not log.endswith(b"\n") else ""
         writing.append(arguments.log, (gap + text).encode("utf-8", "surrogateescape"))
-    else:
+    elif not arguments.append:
         common.write_text(text)
     return common.DONE
 

@@ -7,12 +7,13 @@ that lines of several hands are taken in the order in which they stand there.
 from __future__ import annotations
 
 import fcntl
-import itertools
 import os
 import time
 from typing import BinaryIO
 
 from . import common, writing
+from .sheet_marks import missing_mark
+from .texts import Sheet
 
 PATIENCE_SECONDS = 1.0
 GLANCE_SECONDS = 0.02
@@ -44,6 +45,12 @@ class LiveLog:
         self.known = data
         self._stamp = self._stamp_now()
         return data
+
+    def mark(self, sheet: Sheet) -> None:
+        """Adds the mark of the sheet, unless it is there."""
+        mark = missing_mark(sheet, self.known)
+        if mark:
+            self.append(*mark)
 
     def lines(self) -> int:
         """How many lines were taken so far."""
@@ -141,7 +148,7 @@ class LiveLog:
 
     def _go_beside(self) -> None:
         """Goes on in a file of its own: what was taken already is no longer what the log has."""
-        old, beside = self.path, _free_name(self.path + BESIDE)
+        old, beside = self.path, writing.free_name(self.path + BESIDE)
         self._file.close()
         self.known, self._refused = self._mended(), set()
         writing.replace(beside, self.known)
@@ -151,12 +158,6 @@ class LiveLog:
         self.notes.append(f"{old}: another program changed or removed lines of it. Nothing is "
                           f"lost: all that was taken is in {beside}, which is the log "
                           "from now on")
-
-
-def _free_name(path: str) -> str:
-    """The name, or with a number after it where it is taken."""
-    names = (path + (str(number) if number > 1 else "") for number in itertools.count(1))
-    return next(name for name in names if not os.path.exists(name))
 
 
 def _opened(path: str) -> BinaryIO:

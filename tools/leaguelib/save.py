@@ -14,7 +14,7 @@ import os
 from . import common, writing
 from .asking import futmax_statuses, league_of, run_mode, with_budget
 from .front import add_one_budget
-from .given import Given, ended, gather
+from .given import Given, ended, gather, test_output
 from .line_names import asked_lines
 from .names import shown
 from .progress import Progress, add_progress_argument
@@ -64,12 +64,7 @@ def _test_names(arguments: argparse.Namespace) -> None:
         if path != "-" and not os.path.exists(path):
             raise common.Trouble(f"{path}: there is no such file. If the saved text is to go "
                                  f"there, write `-o {path}`.", common.CANNOT_READ)
-        try:
-            if arguments.output != "-" and os.path.samefile(path, arguments.output):
-                raise common.Trouble(f"-o: {path} is one of the files that are read. Name another "
-                                     "one for the saved text.", common.BAD_WORDS)
-        except OSError:
-            pass
+    test_output(arguments.files, arguments.output)
 
 
 def _test_text(given: Given, text: bytes) -> None:

@@ -10,6 +10,7 @@ from __future__ import annotations
 
 import errno
 import fcntl
+import itertools
 import os
 import signal
 import stat
@@ -69,6 +70,12 @@ def append(path: str, data: bytes) -> None:
             with open(path, "rb") as file:
                 before = file.read()
             put_whole(os.path.realpath(path), [before, data])
+
+
+def free_name(path: str) -> str:
+    """The name, or with a number after it where it is taken."""
+    names = (path + (str(number) if number > 1 else "") for number in itertools.count(1))
+    return next(name for name in names if not os.path.exists(name))
 
 
 def _folder_of(path: str) -> str:
