@@ -19,6 +19,7 @@ from .records import Record, Refused, count_lines, lines_of, record_of, records_
 from .refusals import advise
 from .rulings import lines_for, replaced_text, ruling_of
 from .sheet_dates import dates_of, moved
+from .sheet_marks import test_marks
 from .slips import Changed, Known, Unclear, above_limit, played_text, why_open
 from .texts import Fixture, Sheet
 from .words import words_for
@@ -41,6 +42,7 @@ class Bookkeeper:
         self.forms = "`league feed --help`"
         self.ledger = Ledger()
         self._read_sheet(sheet, sheet_name)
+        test_marks([(sheet_name, sheet), (log_name, log)])
         self.settings = settings_in(sheet)
         self.aliases = {**self.settings.names, **(aliases or {})}
         self._dates_of_sheet = dates_of(sheet, self.sheet)

@@ -13,6 +13,7 @@ DONE = 0
 BAD_WORDS = 1
 TO_MEND = 2
 DOUBTFUL = 3
+FEED_REFUSED = 3
 CANNOT_READ = 4
 CANNOT_WRITE = 5
 NO_PROGRAM = 6
@@ -97,11 +98,8 @@ def write_text(text: str, path: str = "-") -> None:
         sys.stdout.buffer.write(data)
         sys.stdout.buffer.flush()
         return
-    try:
-        Path(path).write_bytes(data)
-    except (OSError, ValueError) as fault:
-        reason = getattr(fault, "strerror", None) or str(fault)
-        raise Trouble(f"{path}: cannot be written: {reason}", CANNOT_WRITE) from fault
+    from . import writing  # pylint: disable=import-outside-toplevel
+    writing.replace(path, data)
 
 
 def program_path(given: str | None = None) -> str:

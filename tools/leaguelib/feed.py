@@ -23,8 +23,9 @@ from __future__ import annotations
 
 import argparse
 import os
+from contextlib import nullcontext
 
-from . import common
+from . import common, writing
 from .aliases import add_alias_argument, read_aliases
 from .bookkeeper import Bookkeeper
 from .feed_lines import Made, all_made
@@ -34,6 +35,7 @@ from .match_lines import HINT
 from .match_list import MOST_WRONG
 from .names import ALL_CLUBS
 from .records import records_of
+from .sheet_marks import missing_mark, unmarked_text
 from .several import file_name
 
 
@@ -61,37 +63,52 @@ def run(arguments: argparse.Namespace) -> int:
     paths = arguments.lines or ["-"]
     if [arguments.sheet, *paths].count("-") > 1:
         raise common.Trouble("standard input can be read once: give `-` once", common.BAD_WORDS)
+    sheet, aliases = common.read_bytes(arguments.sheet), read_aliases(arguments.aliases)
+    files = [(file_name(path), common.read_bytes(path)) for path in paths]
+    # nobody else adds to the feed between reading it and adding to it
+    with writing.alone(arguments.log) if arguments.append else nullcontext():
+        return _enter(arguments, sheet, aliases, files)
+
+
+def _enter(arguments: argparse.Namespace, sheet: bytes, aliases: dict[str, str],
+           files: list[tuple[str, bytes]]) -> int:
+    """Makes the lines, and adds them to the feed or prints them; gives the status."""
     log = _log_so_far(arguments)
-    book = Bookkeeper(common.read_bytes(arguments.sheet), log, file_name(arguments.sheet),
-                      arguments.log or "the feed", read_aliases(arguments.aliases))
+    book = Bookkeeper(sheet, log or b"", file_name(arguments.sheet), arguments.log or "the feed",
+                      aliases)
     book.settings = book.settings.told(arguments)
-    made = all_made(book, [(file_name(path), common.read_bytes(path)) for path in paths],
-                    arguments.correct)
+    if log is None:
+        common.say(f"league: {arguments.log} is not there: a new feed is begun")
+    made = all_made(book, files, arguments.correct)
     for note in report_of(made):
         common.say(f"league: {note}")
     if made.wrong or made.refused:
         _tell_wrong(made)
         return common.TO_MEND
-    if arguments.ask and (made.lines or not _ends_with_ask(log)):
+    if arguments.ask and (made.lines or not _ends_with_ask(log or b"")):
         made.lines.append("ask")
     elif arguments.ask:
         common.say(f"league: nothing is new, and {arguments.log} ends with an `ask` already")
-    text = "".join(line + "\n" for line in made.lines)
-    if arguments.append:
-        gap = "" if log.endswith(b"\n") or not log else "\n"
-        _append(arguments.log, gap + text)
-    else:
+    # a new feed has its mark even if nothing was played so far
+    mark = missing_mark(book.sheet, log or b"") if made.lines or log is None else []
+    if mark and unmarked_text([(arguments.log or "", log or b"")]):
+        common.say(f"league: {arguments.log} had no mark of its sheet, and gets one now. Whether "
+                   "its earlier results are of these matches, look at by `league table`")
+    text = "".join(line + "\n" for line in mark + made.lines)
+    if arguments.append and text:
+        gap = "\n" if log and not log.endswith(b"\n") else ""
+        writing.append(arguments.log, (gap + text).encode("utf-8", "surrogateescape"))
+    elif not arguments.append:
         common.write_text(text)
     return common.DOUBTFUL if made.changed and not arguments.correct else common.DONE
 
 
-def _log_so_far(arguments: argparse.Namespace) -> bytes:
-    """The feed so far; nothing if --append begins it, which is said."""
+def _log_so_far(arguments: argparse.Namespace) -> bytes | None:
+    """The feed so far; none if --append begins it."""
     if not arguments.log:
         return b""
     if arguments.append and not os.path.exists(arguments.log):
-        common.say(f"league: {arguments.log} is not there: a new feed is begun")
-        return b""
+        return None
     return common.read_bytes(arguments.log)
 
 
@@ -117,12 +134,3 @@ def _tell_wrong(made: Made) -> None:
         common.say(f"league: {HINT}")
     common.say("league: nothing was written")
 
-
-def _append(path: str, text: str) -> None:
-    """Writes text to the end of a file."""
-    try:
-        with open(path, "ab") as file:
-            file.write(text.encode("utf-8", "surrogateescape"))
-    except OSError as fault:
-        raise common.Trouble(f"{path}: cannot be written: {fault.strerror}",
-                             common.CANNOT_WRITE) from fault

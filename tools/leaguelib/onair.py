@@ -139,6 +139,12 @@ class Live:
             self.is_refused = not unclear.offers_undo
             self.voice.refused(f"line {self.typed}, {quoted(text.strip())}: refused, not sent: "
                                f"{unclear.message}")
+        except common.Trouble as trouble:
+            if trouble.status != common.CANNOT_WRITE:
+                raise
+            self.refused += 1
+            self.voice.refused(f"line {self.typed}, {quoted(text.strip())}: not kept, not sent: "
+                               f"{trouble.message}. Make room, and type it again")
         return False
 
     def _keep(self, lines: list[str]) -> None:
@@ -147,18 +153,16 @@ class Live:
             self.voice.tell(note)
         if [kind_of(line) for line in lines] == ["ask"]:
             self._answer()
-            return
-        for line in lines:
-            self.log.append(line)
-        self.take_in(own=lines)
+        elif lines:
+            self.log.append(*lines)
+            self.take_in(own=lines)
 
     def _undo(self) -> None:
         """Takes the last line back by the feed's own records."""
         lines = self.evening.back()
         if not lines:
             raise Unclear("there is nothing to take back")
-        for line in lines:
-            self.log.append(line)
+        self.log.append(*lines)
         self.take_in(own=lines)
 
     def take_in(self, before: object = None, own: list[str] | None = None) -> bool:

@@ -24,6 +24,8 @@ from .names import nearest_name, shown
 from .pairs import Gaps, gaps_in, lone_names, look_at_cross, usual_rounds
 from .records import Refused, number_of, records_of, row_text
 from .several import read_lists
+from .sheet_files import add_overwrite_arguments, put_sheet
+from .sheet_update import run_update
 from .texts import MOST_LINES, ORDERS, USUAL_BUDGET
 from .wording import counted
 from .words import words_for
@@ -61,13 +63,20 @@ def add_arguments(parser: argparse.ArgumentParser) -> None:
     parser.add_argument("--rounds", type=int, metavar="N", help="how often each pair meets")
     parser.add_argument("--as-is", action="store_true", help="the list is meant as it is")
     parser.add_argument("--no-comments", action="store_true", help="write records alone")
-    parser.add_argument("-o", "--output", default="-", metavar="FILE", help="file for it; "
-                                                                            "otherwise standard "
-                                                                            "output")
+    parser.add_argument("-o", "--output", default="-", metavar="FILE",
+                        help="file for it; otherwise standard output. A sheet that a feed stands "
+                             "on is overwritten only if each match keeps its number")
+    parser.add_argument("--update", metavar="OLD",
+                        help="only give the matches of the sheet OLD the dates that the lists "
+                             "have now, and add new matches after them; OLD is overwritten "
+                             "unless -o names another file")
+    add_overwrite_arguments(parser)
 
 
 def run(arguments: argparse.Namespace) -> int:
     """Makes the sheet, or says what is missing."""
+    if arguments.update is not None:
+        return run_update(arguments)
     if arguments.runners_up is not None or arguments.groups:
         return _run_cup(arguments)
     if not arguments.lists:
@@ -94,10 +103,7 @@ def run(arguments: argparse.Namespace) -> int:
     text = _text(found, gaps, ranks, records, order, arguments)
     notes = found.notes + _open_words(found) + list(_test(text)) + gaps.notes()
     notes += lone_names(found.matches) if gaps.missing else []
-    common.write_text(text, arguments.output)
-    for note in notes:
-        common.say(f"league: {note}")
-    return common.DOUBTFUL if notes else common.DONE
+    return _written(text, notes, arguments)
 
 
 def _run_cup(arguments: argparse.Namespace) -> int:
@@ -118,10 +124,15 @@ def _run_cup(arguments: argparse.Namespace) -> int:
         arguments.ranks, [club for group in groups for club in group.clubs])
     text = cup_text(name, groups, gaps, ranks, arguments)
     notes = found.notes + _open_words(found) + list(_test(text)) + cup_notes(found, gaps)
-    common.write_text(text, arguments.output)
+    return _written(text, notes, arguments)
+
+
+def _written(text: str, notes: list[str], arguments: argparse.Namespace) -> int:
+    """Writes the sheet, says what to look at, and gives the status."""
+    is_written = put_sheet(text, arguments)
     for note in notes:
         common.say(f"league: {note}")
-    return common.DOUBTFUL if notes else common.DONE
+    return common.DONE if is_written else common.TO_MEND
 
 
 def _test_rounds(arguments: argparse.Namespace) -> None:

@@ -12,7 +12,7 @@ import subprocess
 import tempfile
 from pathlib import Path
 
-from .counting import Counter, league, said, sound_end
+from .counting import Counter, league, said, sound_end, unmarked
 
 SLOW = Path(__file__).resolve().parent / "slow_program.py"
 SHEET = """league,Cup,2
@@ -58,7 +58,7 @@ class Evening:
 
     def kept(self) -> str:
         """What the log holds."""
-        return self.log.read_text("utf-8")
+        return unmarked(self.log.read_text("utf-8"))
 
 
 def lines_of(run: subprocess.CompletedProcess) -> list[str]:
