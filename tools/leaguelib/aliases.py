@@ -29,7 +29,7 @@ def read_aliases(path: str | None) -> dict[str, str]:
     """The clubs by the plain form of their other names; raises `Trouble` with each wrong line."""
     if path is None:
         return {}
-    examined = examine(common.read_bytes(path))
+    examined = examine(common.test_list(common.read_bytes(path), path))
     if not examined.is_readable:
         raise common.Trouble(f"{path}: {examined.messages[0]}")
     aliases: dict[str, str] = {}

@@ -17,8 +17,11 @@ FEED_REFUSED = 3
 CANNOT_READ = 4
 CANNOT_WRITE = 5
 NO_PROGRAM = 6
+TOO_LONG = 8
 OWN_FAULT = 70
 INTERRUPTED = 130
+
+MOST_LIST_BYTES, MOST_LIST_LINES, MOST_LIST_LINE = 4_000_000, 20_000, 65_536
 
 STATUS_TABLE = """\
 exit statuses; those with a star are of ask, table, scores, tonight, check, save and resume, as
@@ -86,6 +89,21 @@ def read_bytes(path: str) -> bytes:
     if len(data) > MOST_INPUT_BYTES:
         raise Trouble(f"{path}: this has more than {MOST_INPUT_BYTES:,} bytes, the most that "
                       "futmax takes")
+    return data
+
+
+def test_list(data: bytes, name: str = "") -> bytes:
+    """The bytes of a list, or `Trouble` if it is far longer than any of one season is."""
+    front = f"{name}: " if name else ""
+    lines = data.count(b"\n") + data.count(b"\r")
+    if len(data) > MOST_LIST_BYTES or lines > MOST_LIST_LINES:
+        raise Trouble(f"{front}this list has {len(data):,} bytes in {lines:,} lines. A season has "
+                      f"600 matches at most, and a list {MOST_LIST_BYTES:,} bytes in "
+                      f"{MOST_LIST_LINES:,} lines: keep the lines of this season alone", TOO_LONG)
+    longest = max(map(len, data.replace(b"\r", b"\n").split(b"\n")))
+    if longest > MOST_LIST_LINE:
+        raise Trouble(f"{front}a line of this list has {longest:,} bytes, and {MOST_LIST_LINE:,} "
+                      "are the most: is it a list with a match a line?", TOO_LONG)
     return data
 
 

@@ -93,7 +93,7 @@ def _given(book: Bookkeeper, file: str, data: bytes) -> list[Given]:
     Such lines among the rows of a table are taken after it.
     """
     notes: list[str] = []
-    lines = lines_in(text_of(data, notes))
+    lines = lines_in(text_of(data, notes, file))
     front = f"{file}: " if file else ""
     notes = [front + note for note in notes]
     if not _has_heads(lines):

@@ -9,7 +9,7 @@ from __future__ import annotations
 import json
 from dataclasses import replace
 
-from .common import Trouble
+from .common import Trouble, test_list
 from .crosses import cross_of, read_cross, test_divided
 from .dates import SLASHED, plain_date, slashed_order, unclear_day
 from .files import examine, without_mark
@@ -22,9 +22,9 @@ __all__ = ["LineReader", "Match", "MatchList", "is_month_first", "lines_in", "ma
            "plain_date", "read_matches", "read_text", "text_of"]
 
 
-def text_of(data: bytes, notes: list[str]) -> str:
+def text_of(data: bytes, notes: list[str], file: str = "") -> str:
     """The text of a list, in whichever encoding it is stored; what was odd goes to the notes."""
-    examined = examine(data)
+    examined = examine(test_list(data, file))
     if not examined.is_readable:
         raise Trouble(examined.messages[0])
     notes.extend(examined.messages)
@@ -66,7 +66,7 @@ def read_matches(data: bytes, file: str = "", needs_scores: bool = False,
     Where scores are needed, a table without a column for them is refused.
     """
     notes: list[str] = []
-    text = text_of(data, notes)
+    text = text_of(data, notes, file)
     found = read_text(text, file, needs_scores, days)
     found.note_groups()
     front = f"{file}: " if file else ""

@@ -202,7 +202,7 @@ def _ranks(path: str | None, clubs: list[str]) -> dict[str, int]:
         return {name: 1 for name in names}
     ranks: dict[str, int] = {}
     try:
-        for record in records_of(common.read_bytes(path)):
+        for record in records_of(common.test_list(common.read_bytes(path), path)):
             fields = record.fields[1:] if record.kind == "club" else record.fields
             rank = number_of(fields[1].strip()) if len(fields) == 2 else None
             if rank is None or not 1 <= rank <= 999:
