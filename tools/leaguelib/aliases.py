@@ -12,7 +12,9 @@ import argparse
 
 from . import common
 from .files import examine, without_mark
-from .names import UnknownName, club_of, plain_form, shown, tidy
+from .list_settings import settings_in
+from .name_words import plain_form, tidy
+from .names import UnknownName, club_of, shown
 from .records import fields_of
 from .texts import Sheet
 
@@ -27,7 +29,7 @@ def read_aliases(path: str | None) -> dict[str, str]:
     """The clubs by the plain form of their other names; raises `Trouble` with each wrong line."""
     if path is None:
         return {}
-    examined = examine(common.read_bytes(path))
+    examined = examine(common.test_list(common.read_bytes(path), path))
     if not examined.is_readable:
         raise common.Trouble(f"{path}: {examined.messages[0]}")
     aliases: dict[str, str] = {}
@@ -61,6 +63,11 @@ def _take(aliases: dict[str, str], columns: list[str]) -> str:
         return f"{shown(columns[0])} is there already, for {shown(aliases[form])}"
     aliases[form] = columns[1]
     return ""
+
+
+def all_aliases(sheet: bytes, path: str | None) -> dict[str, str]:
+    """The other names that a sheet keeps in its comments, and those of a file."""
+    return {**settings_in(sheet).names, **read_aliases(path)}
 
 
 def chosen_club(name: str, sheet: Sheet, aliases: dict[str, str] | None = None) -> str:

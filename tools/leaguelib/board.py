@@ -22,7 +22,7 @@ from .cup_why import CupWhy, own_proofs
 from .enough import score_words
 from .feeds import Input
 from .front import add_budget_argument
-from .given import Given, add_file_arguments, gather
+from .given import Given, add_file_arguments, gather, test_output
 from .line_names import LineNames, asked_lines, names_in
 from .lines import line_runs, with_lines_of
 from .modes import DECIDE
@@ -103,6 +103,7 @@ def add_arguments(parser: argparse.ArgumentParser) -> None:
 
 def run(arguments: argparse.Namespace) -> int:
     """Writes the page, and gives the exit status."""
+    test_output(arguments.files, arguments.output)
     given = gather(arguments.files, takes_cup=True)
     league = league_in(given)
     position = position_of(league, arguments.ask)

@@ -3,37 +3,31 @@
 from __future__ import annotations
 
 import re
+from dataclasses import replace
 
 from . import common
 from .cleaning import KINDS, OTHER_WORDS
 from .dates import is_same_day
 from .feeds import FeedReader, InputReader
+from .fixtures_by_name import named_fixture
+from .ledger import Ledger
+from .list_settings import MONTH_FIRST, settings_in
 from .match_lines import parts_of
 from .matches import Match
 from .names import UnknownName, club_of
-from .records import Record, Refused, count_lines, record_of, records_of, row_text
+from .records import Record, Refused, count_lines, lines_of, record_of, records_of
 from .refusals import advise
-from .sheet_dates import dates_of
-from .slips import above_limit, played_text, why_open
+from .rulings import lines_for, replaced_text, ruling_of
+from .sheet_dates import dates_of, moved
+from .sheet_marks import test_marks
+from .slips import Changed, Known, Unclear, above_limit, played_text, why_open
 from .texts import Fixture, Sheet
 from .words import words_for
 
-FIRST_WORD = re.compile(r"^(correct|correction|fix|annul|annulled|void|cancel|deduct|result)"
-                        r"\s*:?\s+(\S.*)$", re.IGNORECASE)
-DEDUCTION = re.compile(r"^(?:(\d+)\s+points?\s+from\s+(.+)|(.+?)\s+[-−]?(\d+)(?:\s+points?)?)$",
-                       re.IGNORECASE)
+FIRST_WORD = re.compile(r"^(correct|correction|fix|annul|annulled|void|result)\s*:?\s+(\S.*)$",
+                        re.IGNORECASE)
 WHEN = re.compile(r"^when(?:\s*,\s*(\S+)|\s+(\S.*))$", re.IGNORECASE)
-MEANINGS = {"correct": "fix", "correction": "fix", "annul": "void", "annulled": "void",
-            "cancel": "void"}
-
-
-class Unclear(Exception):
-    """A line that cannot be turned into a line of the feed, and why; whether `undo` is offered."""
-
-    def __init__(self, message: str, offers_undo: bool = False) -> None:
-        super().__init__(message)
-        self.message = message
-        self.offers_undo = offers_undo
+MEANINGS = {"correct": "fix", "correction": "fix", "annul": "void", "annulled": "void"}
 
 
 class Bookkeeper:
@@ -42,18 +36,28 @@ class Bookkeeper:
     def __init__(self, sheet: bytes, log: bytes = b"", sheet_name: str = "the sheet",
                  log_name: str = "the feed", aliases: dict[str, str] | None = None) -> None:
         self.reader = InputReader()
-        self.aliases = aliases or {}
         self.meant: dict[str, str] = {}
         self.notes: list[str] = []
+        self.entered: set[int] = set()
         self.forms = "`league feed --help`"
+        self.ledger = Ledger()
         self._read_sheet(sheet, sheet_name)
+        test_marks([(sheet_name, sheet), (log_name, log)])
+        self.settings = settings_in(sheet)
+        self.aliases = {**self.settings.names, **(aliases or {})}
+        self._dates_of_sheet = dates_of(sheet, self.sheet)
+        self.dates = dict(self._dates_of_sheet)
         self._read_log(log, log_name)
-        self.dates = dates_of(sheet, self.sheet)
 
     @property
     def sheet(self) -> Sheet:
         """The sheet."""
         return self.reader.sheet
+
+    @property
+    def names(self) -> list[str]:
+        """The names of the clubs."""
+        return [club.name for club in self.sheet.clubs]
 
     @property
     def feed(self) -> FeedReader:
@@ -81,9 +85,10 @@ class Bookkeeper:
     def _read_log(self, data: bytes, name: str) -> None:
         fields: list[str] = []
         try:
-            for record in records_of(data):
-                fields = record.fields
-                self.feed.take(record)
+            for number, raw in lines_of(data):
+                record = record_of(number, raw)
+                fields = record.fields if record else []
+                self.take_line(raw.decode("utf-8", "surrogateescape"), record)
         except Refused as refused:
             words = words_for(refused, fields, self.reader.sheet)
             raise common.Trouble(f"{name}, line {refused.line}: {words} (`league lint` says "
@@ -97,17 +102,34 @@ class Bookkeeper:
 
     def enter(self, line: str) -> None:
         """Takes a line that was made here."""
-        record = record_of(1, line.encode("utf-8"))
+        record = record_of(1, line.encode("utf-8", "surrogateescape"))
+        self.take_line(line, record)
+        if record is not None and record.kind == "result":
+            self.entered.add(int(record.fields[1]))
+
+    def take_line(self, line: str, record: Record | None) -> None:
+        """Takes a line of the feed, which is a record or a comment."""
         if record is not None:
-            self.feed.take(record)
+            self.ledger.note(self.feed.take(record))
+        elif self.ledger.pass_over(line):
+            self.dates = moved(self._dates_of_sheet, self.ledger.days())
 
     def is_order(self, text: str) -> bool:
-        """Whether a line is one of the feed, or a correction, annulment or deduction by names."""
+        """Whether a line is one of the feed, or a correction, an annulment or a ruling by names."""
         line = text.strip()
-        if line.lower() in KINDS or FIRST_WORD.match(line):
+        if line.lower() in KINDS or FIRST_WORD.match(line) or ruling_of(line, self):
             return True
         word = line.split(",")[0].strip().lower()
         return "," in line and (word in KINDS or word in OTHER_WORDS)
+
+    def lines_of(self, text: str) -> list[str]:
+        """The lines of the feed for a line by names, tested: a record, a ruling, or nothing."""
+        ruling = ruling_of(text.strip(), self)
+        if ruling is not None:
+            return lines_for(self, *ruling)
+        line = self.line_of(text)
+        self.notes += replaced_text(self.feed.season, line or "")
+        return [] if line is None else [line]
 
     def line_of(self, text: str) -> str | None:
         """The line of the feed for a line by names, tested; none if it is empty or a comment."""
@@ -116,14 +138,12 @@ class Bookkeeper:
             return None
         found = FIRST_WORD.match(line)
         if found is None and self.is_order(line):
-            return self._tested(line.lower() if line.lower() in KINDS else line)
+            return self.tested(line.lower() if line.lower() in KINDS else line)
         kind, rest = ("result", line)
         if found:
             word = found.group(1).lower()
             kind, rest = MEANINGS.get(word, word), found.group(2)
-        if kind == "deduct":
-            return self._deduction(rest)
-        parts = parts_of(rest)
+        parts = parts_of(rest, self.settings.days == MONTH_FIRST)
         if parts.match is None:
             why = parts.why
             reason = why if why and "cannot be read" not in why else "this is not understood"
@@ -131,7 +151,7 @@ class Bookkeeper:
                           f"{self.forms} has the other forms")
         if kind != "void" and parts.told.word:
             raise Unclear(why_open(parts.told))
-        return self.line_of_match(kind, parts.match)
+        return self.line_of_match(kind, self.with_score(parts.match))
 
     def asked_match(self, text: str) -> Fixture | None:
         """The open match of a line `when,5` or `when Germany - Scotland`; none of any other line.
@@ -148,8 +168,18 @@ class Bookkeeper:
             if match is None:
                 raise Unclear("a match is asked about like `when Germany - Scotland` or `when,5`")
             number = self.fixture_of("when", match).number
-        line = self._tested(f"when,{number}")
+        line = self.tested(f"when,{number}")
         return self.sheet.fixture(int(line.split(",")[1]))
+
+    def with_score(self, match: Match) -> Match:
+        """The match with its score, also where signs alone say to whom it was awarded."""
+        if not match.winner:
+            return match
+        if self.settings.walkover is None:
+            raise Unclear("the signs say who won and not the score: write the score that counts, "
+                          "like 3-0, or give --walkover 3-0")
+        won, lost = self.settings.walkover
+        return replace(match, score=(won, lost) if match.winner == "home" else (lost, won))
 
     def line_of_listed(self, match: Match) -> str | None:
         """The line for a match of a list, none if its score stands already."""
@@ -164,19 +194,24 @@ class Bookkeeper:
             raise Unclear("the score is missing, as in `Germany 5-1 Scotland`")
         fixture = self.fixture_of(kind, match)
         if kind == "result" and fixture.number in self.feed.season.scores:
-            raise Unclear(played_text(self.sheet, self.feed.season, fixture)
-                          + self._correction(fixture, match.score))
+            raise self._changed(fixture, match.score)
+        if kind == "fix" and self.feed.season.scores.get(fixture.number) == match.score:
+            raise Known(f"{fixture.home} - {fixture.away} has the score {match.score[0]}-"
+                        f"{match.score[1]} already")
         date = self.dates.get(fixture.number, "")
         if match.date and date and not is_same_day(match.date, date):
             self.notes.append(f"the sheet has {fixture.home} - {fixture.away} on {date}, and not "
                               f"on {match.date}; it was taken all the same")
         goals = [] if kind == "void" else [str(goal) for goal in match.score or ()]
-        return self._tested(",".join([kind, str(fixture.number), *goals]))
+        return self.tested(",".join([kind, str(fixture.number), *goals]))
 
-    def _correction(self, fixture: Fixture, score: tuple[int, int]) -> str:
-        """How another score is put in place of the one that stands; the line was tried."""
+    def _changed(self, fixture: Fixture, score: tuple[int, int]) -> Unclear:
+        """What to say of another result, and how it is put in place of the one that stands; the
+        line was tried.
+        """
+        front = played_text(self.sheet, self.feed.season, fixture)
         if self.feed.season.scores[fixture.number] == score:
-            return ": this line can be left out"
+            return Known(f"{front}: this line can be left out")
         typed = f"correct {fixture.home} {score[0]}-{score[1]} {fixture.away}"
         line, notes = f"fix,{fixture.number},{score[0]},{score[1]}", list(self.notes)
         try:
@@ -184,58 +219,23 @@ class Bookkeeper:
         except Unclear:
             is_taken = False
         self.notes = notes
-        return f"; `{typed if is_taken else line}` would replace it"
-
-    def _deduction(self, text: str) -> str:
-        """The line for points deducted."""
-        found = DEDUCTION.match(text)
-        if not found:
-            raise Unclear("a deduction is written like `deduct Scotland 3`, with the points "
-                          "deducted "
-                          "in all")
-        name = found.group(2) or found.group(3)
-        points = found.group(1) or found.group(4)
-        return self._tested(row_text("deduct", self.club(name.strip()), points).rstrip("\n"))
+        typed = typed if is_taken else line
+        return Changed(f"{front}; `{typed}` would replace it", line, typed)
 
     def club(self, name: str) -> str:
         """The club that a name means; raises `Unclear` if none is meant, or several may be."""
         if name not in self.meant:
             try:
-                self.meant[name] = club_of(name, [club.name for club in self.sheet.clubs],
-                                           self.aliases)
+                self.meant[name] = club_of(name, self.names, self.aliases)
             except UnknownName as unknown:
                 raise Unclear(unknown.message) from unknown
         return self.meant[name]
 
     def fixture_of(self, kind: str, match: Match) -> Fixture:
-        """The fixture of a match by names, by its date where the two meet there more than once."""
-        home, away = self.club(match.home), self.club(match.away)
-        found = [one for one in self.sheet.fixtures if (one.home, one.away) == (home, away)]
-        if not found:
-            turned = [one for one in self.sheet.fixtures if (one.home, one.away) == (away, home)]
-            hint = f": they meet as {away} - {home}, fixture {turned[0].number}" if turned else ""
-            raise Unclear(f"the sheet has no match {home} - {away}{hint}")
-        dated = [one for one in found
-                 if match.date and is_same_day(match.date, self.dates.get(one.number, ""))]
-        if len(found) == 1 or len(dated) == 1:
-            return found[0] if len(found) == 1 else dated[0]
-        raise Unclear(self._which(kind, match, found))
+        """The fixture of a match by names; raises `Unclear` if it is none, or one of several."""
+        return named_fixture(self, kind, match)
 
-    def _which(self, kind: str, match: Match, found: list[Fixture]) -> str:
-        """What to say where two clubs meet more than once with the same one at home."""
-        goals = ""
-        dated = f" None of them is dated {match.date}." if match.date else ""
-        if match.score is not None and kind != "void":
-            goals = f",{match.score[0]},{match.score[1]}"
-        choices = []
-        for one in found:
-            date = self.dates.get(one.number)
-            state = "played" if one.number in self.feed.season.scores else "open"
-            choices.append(f"`{kind},{one.number}{goals}` ({date + ', ' if date else ''}{state})")
-        return (f"{match.home} - {match.away} comes {len(found)} times in the sheet.{dated} "
-                f"Write the date before it, or one of these: {', '.join(choices)}")
-
-    def _tested(self, line: str) -> str:
+    def tested(self, line: str) -> str:
         """The line, where the program takes it; raises `Unclear` if it does not."""
         record = record_of(1, line.encode("utf-8", "surrogateescape"))
         if record is None:

@@ -7,7 +7,7 @@ from __future__ import annotations
 import re
 from dataclasses import dataclass, field
 
-from .names import SPACES, tidy
+from .name_words import SPACES, tidy
 from .records import fields_of
 
 KINDS = ("league", "club", "match", "line", "season", "result", "fix", "void", "deduct", "ask",

@@ -32,7 +32,10 @@ PARTS = {
     "sheet": "make a sheet from a list of fixtures",
     "feed": "turn results by names into a feed",
     "lint": "look for mistakes in a sheet and a feed",
+    "names": "other names of the clubs, and which club a name means",
 }
+# parts whose module has another name
+MODULES = {"names": "other_names"}
 
 
 EXAMPLES = """\
@@ -68,7 +71,12 @@ class Parser(argparse.ArgumentParser):
 def parts() -> dict[str, str]:
     """The parts whose module is there, and what they do."""
     return {name: summary for name, summary in PARTS.items()
-            if importlib.util.find_spec(f"{__package__}.{name}") is not None}
+            if importlib.util.find_spec(module_of(name)) is not None}
+
+
+def module_of(part: str) -> str:
+    """The module of a part."""
+    return f"{__package__}.{MODULES.get(part, part)}"
 
 
 def make_parser() -> Parser:
@@ -90,7 +98,7 @@ def read_words(given: list[str]) -> argparse.Namespace:
     chosen = given[0] if given else ""
     if chosen not in parts():
         return make_parser().parse_args(given)
-    part = importlib.import_module(f"{__package__}.{chosen}")
+    part = importlib.import_module(module_of(chosen))
     parser = Parser(prog=f"league {chosen}", description=(part.__doc__ or "").strip(),
                     epilog=common.STATUS_TABLE)
     part.add_arguments(parser)

@@ -13,11 +13,15 @@ DONE = 0
 BAD_WORDS = 1
 TO_MEND = 2
 DOUBTFUL = 3
+FEED_REFUSED = 3
 CANNOT_READ = 4
 CANNOT_WRITE = 5
 NO_PROGRAM = 6
+TOO_LONG = 8
 OWN_FAULT = 70
 INTERRUPTED = 130
+
+MOST_LIST_BYTES, MOST_LIST_LINES, MOST_LIST_LINE = 4_000_000, 20_000, 65_536
 
 STATUS_TABLE = """\
 exit statuses; those with a star are of ask, table, scores, tonight, check, save and resume, as
@@ -88,6 +92,21 @@ def read_bytes(path: str) -> bytes:
     return data
 
 
+def test_list(data: bytes, name: str = "") -> bytes:
+    """The bytes of a list, or `Trouble` if it is far longer than any of one season is."""
+    front = f"{name}: " if name else ""
+    lines = data.count(b"\n") + data.count(b"\r")
+    if len(data) > MOST_LIST_BYTES or lines > MOST_LIST_LINES:
+        raise Trouble(f"{front}this list has {len(data):,} bytes in {lines:,} lines. A season has "
+                      f"600 matches at most, and a list {MOST_LIST_BYTES:,} bytes in "
+                      f"{MOST_LIST_LINES:,} lines: keep the lines of this season alone", TOO_LONG)
+    longest = max(map(len, data.replace(b"\r", b"\n").split(b"\n")))
+    if longest > MOST_LIST_LINE:
+        raise Trouble(f"{front}a line of this list has {longest:,} bytes, and {MOST_LIST_LINE:,} "
+                      "are the most: is it a list with a match a line?", TOO_LONG)
+    return data
+
+
 def write_text(text: str, path: str = "-") -> None:
     """Writes text to a file, or to standard output where the path is `-`."""
     data = text.encode("utf-8", "surrogateescape")
@@ -97,11 +116,8 @@ def write_text(text: str, path: str = "-") -> None:
         sys.stdout.buffer.write(data)
         sys.stdout.buffer.flush()
         return
-    try:
-        Path(path).write_bytes(data)
-    except (OSError, ValueError) as fault:
-        reason = getattr(fault, "strerror", None) or str(fault)
-        raise Trouble(f"{path}: cannot be written: {reason}", CANNOT_WRITE) from fault
+    from . import writing  # pylint: disable=import-outside-toplevel
+    writing.replace(path, data)
 
 
 def program_path(given: str | None = None) -> str:

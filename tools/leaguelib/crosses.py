@@ -17,7 +17,7 @@ from dataclasses import dataclass
 from .common import Trouble
 from .match_lines import note_told
 from .match_list import Match, MatchList, Passed, Wrong, quoted
-from .names import DASHES, plain_form
+from .name_words import DASHES, plain_form
 from .score_texts import plain_signs, read_score
 from .match_tables import SIGNS, cells_of
 
@@ -126,7 +126,8 @@ def read_cross(lines: list[str], cross: Cross, file: str) -> MatchList:
                 continue
             note_told(found, told, number, f"{names[row]} - {names[away]}")
             text = f"{names[row]} - {names[away]} {cell}"
-            found.add(Match(names[row], names[away], told.score, "", number, text, file))
+            found.add(Match(names[row], names[away], told.score, "", number, text, file,
+                            told.winner))
     wrong.refuse()
     return found
 

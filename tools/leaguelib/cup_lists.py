@@ -32,7 +32,7 @@ class Drawn:
 def groups_in_file(path: str) -> list[Drawn]:
     """The groups of a file with lines `A: Germany, Scotland, Hungary, Switzerland`."""
     found: list[Drawn] = []
-    text = common.read_bytes(path).decode("utf-8-sig", "replace")
+    text = common.test_list(common.read_bytes(path), path).decode("utf-8-sig", "replace")
     for number, line in enumerate(text.splitlines(), 1):
         if not line.strip() or line.startswith("#"):
             continue

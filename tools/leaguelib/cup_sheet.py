@@ -8,6 +8,7 @@ from . import common
 from .aliases import read_aliases
 from .cup_lists import (Drawn, groups_in_file, groups_in_list, round_robin, test_sizes,
                         with_matches)
+from .list_settings import ListSettings, comments_for
 from .match_list import MatchList
 from .pairs import Gaps, lone_names, usual_rounds
 from .records import row_text
@@ -37,7 +38,7 @@ def cup_groups(arguments: argparse.Namespace) -> tuple[MatchList, list[Drawn]]:
         for group in groups:
             group.days = round_robin(group.clubs, arguments.rounds or 1)
         return MatchList(), groups
-    found = read_lists(arguments.lists, read_aliases(arguments.aliases))
+    found = read_lists(arguments.lists, read_aliases(arguments.aliases), arguments.days or "")
     if not found.matches:
         raise common.Trouble("the list has no matches")
     groups = with_matches(groups, found.matches) if groups else groups_in_list(found)
@@ -120,7 +121,8 @@ def _comments(groups: list[Drawn], number: int, arguments: argparse.Namespace) -
              "Rank 1 for all: clubs that are level on every other criterion are decided by lots."
              if arguments.ranks is None else
              "The ranks are those that were given; they decide before lots."]
-    return [f"# {line}\n" for line in lines]
+    return [f"# {line}\n" for line in lines] + comments_for(
+        ListSettings(arguments.days or "", arguments.walkover))
 
 
 def cup_notes(found: MatchList, gaps: list[Gaps]) -> list[str]:

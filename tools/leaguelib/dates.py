@@ -5,6 +5,7 @@ A date without its year is kept as `Aug/17` until a full date before it tells th
 
 from __future__ import annotations
 
+import datetime
 import re
 import unicodedata
 from dataclasses import dataclass
@@ -127,6 +128,14 @@ def is_date(text: str) -> bool:
     return found is not None and TIME.sub("", found.rest) == ""
 
 
+def is_calendar_day(date: str) -> bool:
+    """Whether a date like 2026-05-13 stands in the calendar."""
+    try:
+        return bool(datetime.date(*map(int, date.split("-"))))
+    except (TypeError, ValueError):
+        return False
+
+
 def with_year(date: str, before: str) -> str:
     """A date like Aug/12 with the year of the full date before it, or the next where it is past."""
     found = re.match(r"^([A-Z][a-z]{2})/(\d{1,2})$", date)
@@ -150,6 +159,13 @@ def is_same_day(first: str, second: str) -> bool:
             days.append((MONTHS.index(short.group(1).lower()) + 1, int(short.group(2))))
     is_short = any(re.match(r"^[A-Z]", date) for date in (first, second))
     return first == second or (is_short and len(days) == 2 and days[0] == days[1])
+
+
+def unclear_day(text: str) -> str:
+    """The first date like 03/04/2026 that has another meaning if the month comes first."""
+    return next((found.group() for found in SLASHED.finditer(text)
+                 if found.group(1) != found.group(2) and int(found.group(1)) <= 12
+                 and int(found.group(2)) <= 12 and int(found.group(1)) != int(found.group(2))), "")
 
 
 def slashed_order(text: str) -> str:

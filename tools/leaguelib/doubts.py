@@ -2,12 +2,15 @@
 
 from __future__ import annotations
 
+import re
 from collections import Counter
 from dataclasses import dataclass
 from typing import Iterator
 
 from .cup_words import cup_doubts
-from .names import plain_form, shown, tidy
+from .name_words import plain_form, tidy
+from .names import shown
+from .sheet_dates import NEW_DATE
 from .texts import Entry, Season, Sheet
 
 MANY_GOALS = 15
@@ -156,6 +159,18 @@ def feed_doubts(sheet: Sheet, entries: list[Entry], question: str = "ask") -> It
     for entry in entries:
         yield from _event_doubts(season, entry)
         season.apply(entry)
+
+
+def day_doubts(data: bytes, sheet: Sheet) -> Iterator[Doubt]:
+    """New dates that nothing goes by, since they are written in another way or of no match."""
+    for number, raw in enumerate(data.split(b"\n"), 1):
+        line = raw.decode("utf-8", "replace").rstrip("\r")
+        if not re.match(r"#\s*new date\b", line, re.IGNORECASE):
+            continue
+        found = NEW_DATE.match(line)
+        if found is None or not 1 <= int(found.group(1)) <= len(sheet.fixtures):
+            yield Doubt(number, "this new date counts for nothing: one is written like `# new date: "
+                                "57,2026-05-13`, with the number of a match, or by `league feed`")
 
 
 def _goal_doubts(sheet: Sheet, entries: list[Entry]) -> Iterator[Doubt]:

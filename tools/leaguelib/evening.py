@@ -1,8 +1,8 @@
 """An evening's season as its log tells it: events, scores in play, and how each is taken back.
 
 A score in play is no result. It stands in the log as a comment, `# in play: FIXTURE,HOME,AWAY`,
-which futmax passes over, and counts until the match has a result. Behind the comment `# undo` the
-next line takes back the one before it.
+which futmax passes over, and counts until the match has a result; so does a new date of a match
+(`ledger.py`). Behind the comment `# undo` the next line takes back the one before it.
 """
 
 from __future__ import annotations
@@ -11,11 +11,13 @@ import re
 from dataclasses import replace
 from typing import Tuple
 
-from .bookkeeper import Bookkeeper, Unclear
+from .bookkeeper import Bookkeeper
+from .ledger import new_date_line
 from .match_lines import Parts, parts_of
 from .match_list import Match
 from .records import record_of, row_text
-from .slips import played_text
+from .sheet_dates import NEW_DATE
+from .slips import Unclear, played_text
 from .texts import Entry, Fixture
 from .wording import counted, shown
 
@@ -61,13 +63,13 @@ class Evening:
         return {number: score for number, score in sorted(self._in_play.items())
                 if number not in scores}
 
-    def line_of(self, text: str) -> str | None:
-        """The line of the log for a line as it was typed; none if there is nothing in it."""
+    def lines_of(self, text: str) -> list[str]:
+        """The lines of the log for a line as it was typed; none if there is nothing in it."""
         plain = TILDE.sub(" ", text).strip()
         parts = Parts(None) if self.book.is_order(plain) else parts_of(plain)
         score = parts.told.in_play
         if plain == text.strip() and score is None:
-            return self.book.line_of(text)
+            return self.book.lines_of(text)
         if parts.match is not None and (score or parts.told.score) is not None:
             self._test_open(parts.match)
         line = self.book.line_of(plain) if score is None else (
@@ -76,7 +78,7 @@ class Evening:
         if record is None or record.kind != "result":
             raise Unclear("a score in play is written like `Germany ~1-0 Scotland`")
         entry = self.book.feed.read(record)
-        return in_play_line(entry.fixture, entry.score)
+        return [in_play_line(entry.fixture, entry.score)]
 
     def _test_open(self, match: Match) -> None:
         """Raises `Unclear` if a match has a result, and so no score in play."""
@@ -105,17 +107,18 @@ class Evening:
         text = line.strip()
         if text == UNDO:
             self._is_undoing = True
-            return ""
         if text.startswith("#"):
-            found = IN_PLAY.match(text)
-            return self._take_in_play(found) if found else ""
+            found, day = IN_PLAY.match(text), NEW_DATE.match(text)
+            words = self._take_in_play(found) if found else self._take_day(day) if day else ""
+            self.book.take_line(text, None)
+            return words
         record = record_of(1, line.encode("utf-8", "surrogateescape"))
         if record is None:
             return ""
         self.book.test(record)
         entry = self.book.feed.read(record)
         before = self._before(entry)
-        self.book.feed.take(record)
+        self.book.take_line(line, record)
         if entry.kind == "void" and not self._is_undoing:
             self._in_play.pop(entry.fixture, None)
         words = self._words(entry, before)
@@ -148,6 +151,19 @@ class Evening:
             self._in_play[number] = (int(found.group(2)), int(found.group(3)))
             words = f"match {number}: {_scored(fixture, self._in_play[number])} in play, no result"
         self._note_back(back, words)
+        self._is_undoing = False
+        return taken + words
+
+    def _take_day(self, found: re.Match) -> str:
+        """Takes the new date of a match; one of a match that is not there is passed over."""
+        number, day = int(found.group(1)), found.group(2)
+        if not 1 <= number <= len(self.book.sheet.fixtures):
+            return ""
+        fixture = self.book.sheet.fixture(number)
+        where = {"none": "has no date now", "sheet": "is on the date of the sheet again"}
+        words = f"match {number}: {_names(fixture)} {where.get(day, f'is on {day} now')}"
+        taken = "taken back: " if self._is_undoing else ""
+        self._note_back(new_date_line(fixture, self.book.ledger.day_of(number)), words)
         self._is_undoing = False
         return taken + words
 

@@ -12,7 +12,7 @@ from __future__ import annotations
 import argparse
 
 from . import common
-from .aliases import add_alias_argument, chosen_club, read_aliases
+from .aliases import add_alias_argument, all_aliases, chosen_club
 from .answers import BadAnswer, Report, read_report
 from .asking import Asked, Outcome, ask_mode, position_of
 from .feeds import Input
@@ -93,7 +93,7 @@ def _text(arguments: argparse.Namespace, view: View, path: str, proved: Told | N
     if arguments.line is not None and arguments.line not in lines:
         raise common.Trouble(f"no line {arguments.line} was asked for; the lines of the sheet are "
                              f"{listed([str(line) for line in lines])}.", common.BAD_WORDS)
-    aliases = read_aliases(arguments.aliases)
+    aliases = all_aliases(view.given.data, arguments.aliases)
     clubs = [chosen_club(name, sheet, aliases) for name in arguments.why]
     if arguments.all:
         clubs = [place.club for place in view.table]

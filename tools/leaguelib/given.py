@@ -5,6 +5,7 @@ where the feed has none; and where each line of the whole stands.
 from __future__ import annotations
 
 import argparse
+import os
 from dataclasses import dataclass
 
 from . import common
@@ -12,6 +13,7 @@ from .cups import begins_a_cup, first_kind
 from .files import Joined, examine, joined
 from .names import shown
 from .records import fields_of
+from .sheet_marks import test_marks
 
 MOST_QUOTED = 80
 STANDARD_INPUT = "standard input"
@@ -70,6 +72,18 @@ def add_file_arguments(parser: argparse.ArgumentParser) -> None:
                         help="the program futmax, if it is not found by itself")
 
 
+def test_output(paths: list[str], output: str) -> None:
+    """Ends the command if its output would take the place of a file that it reads."""
+    for path in paths if output != "-" else []:
+        try:
+            is_same = path != "-" and os.path.samefile(path, output)
+        except OSError:
+            continue
+        if is_same:
+            raise common.Trouble(f"-o: {path} is one of the files that are read. Name another one "
+                                 "for what is written.", common.BAD_WORDS)
+
+
 def read_all(paths: list[str]) -> list[tuple[str, bytes]]:
     """The files with their names, in the order in which they are named."""
     if paths.count("-") > 1:
@@ -94,6 +108,7 @@ def given_of(files: list[tuple[str, bytes]], adds_ask: bool = True,
     for name, data in files:
         for message in examine(data).messages:
             raise common.Trouble(f"{name}: {message}.")
+    test_marks(files)
     parts = [(name, ended(data)) for name, data in files[:-1]]
     whole = joined(parts + files[-1:])
     has_season, has_ask, report_line = _look(whole.data)

@@ -46,7 +46,7 @@ def kind_of(cell: str) -> str:
     if re.fullmatch(r"\d{1,3}\.?", cell):
         return "number"
     told = read_score(cell)
-    if told.score is not None:
+    if told.score is not None or told.winner:
         return "score"
     if not told.why:
         return "open"
@@ -139,7 +139,8 @@ def read_headless(lines: list[str], plan: Plan, file: str, is_month_first: bool)
             wrong.add(number, why, line)
             continue
         note_told(found, told, number, line)
-        found.add(Match(cells[plan.home], cells[plan.away], told.score, date, number, line, file))
+        found.add(Match(cells[plan.home], cells[plan.away], told.score, date, number, line, file,
+                        told.winner))
     wrong.refuse(ADVICE + "." if wrong.messages else "")
     return found
 
@@ -166,4 +167,5 @@ def _told(cells: list[str], plan: Plan) -> Told:
     told = read_score(cells[first])
     words = [cell for place, cell in enumerate(cells) if place not in (plan.home, plan.away)
              and cell.casefold().strip(".()") in OPEN_WORDS]
-    return Told(word=words[0]) if told.score is None and not told.why and words else told
+    is_open = told.score is None and not (told.why or told.winner)
+    return Told(word=words[0]) if is_open and words else told

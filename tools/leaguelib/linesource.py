@@ -9,6 +9,7 @@ from typing import Callable
 
 GLANCE_SECONDS = 0.5
 PIECE = 1 << 16
+MOST_TYPED = 1_025
 
 
 class LineSource:
@@ -28,7 +29,9 @@ class LineSource:
                 self._look()
                 continue
             piece = os.read(self._file, PIECE)
-            self._rest += piece
+            # of a line that is far too long the front is kept, which is refused
+            start, sign, end = piece.partition(b"\n")
+            self._rest = (self._rest + start)[:MOST_TYPED] + sign + end
             self._has_ended = not piece
         if not self._rest:
             return None

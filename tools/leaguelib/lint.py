@@ -9,7 +9,7 @@ import argparse
 
 from . import common
 from .cleaning import KINDS, cleaned_steps
-from .doubts import Doubt, feed_doubts, sheet_doubts
+from .doubts import Doubt, day_doubts, feed_doubts, sheet_doubts
 from .feeds import Input, InputReader, read_input
 from .files import examine, joined
 from .findings import Finding, Outcome, capital, outcome_text
@@ -19,6 +19,7 @@ from .refusals import Advice, advise
 from .repairs import FEED_KINDS
 from .saved import SAVED_KINDS, without_saved
 from .saved_lines import first_bad_line
+from .sheet_marks import moved_in, unmarked_text
 from .texts import Entry
 from .words import SAVED_WORDS, words_for
 
@@ -45,8 +46,11 @@ def run(arguments: argparse.Namespace) -> int:
     files = [("standard input" if name == "-" else name, common.read_bytes(name))
              for name in arguments.files]
     text, status = looked_at(files, arguments.sheet_only, arguments.mode)
+    unknown = unmarked_text(files) if status != common.FEED_REFUSED else ""
     if text or not arguments.quiet:
         common.write_text(text or "No mistakes found.\n")
+    if unknown and not arguments.quiet:
+        common.write_text(unknown + ".\n")
     return status
 
 
@@ -56,6 +60,9 @@ def looked_at(files: list[tuple[str, bytes]], is_sheet_only: bool = False,
     examined = [(name, examine(data)) for name, data in files]
     texts = [f"{name}: {capital(message)}.\n"
              for name, file in examined for message in file.messages]
+    moved = moved_in(files)
+    if moved:
+        return f"{moved}.\n", common.FEED_REFUSED
     original = refusal_of(b"".join(data for _, data in files), mode)
     if not all(file.is_readable for _, file in examined):
         whole = joined(files)
@@ -114,6 +121,7 @@ def look(data: bytes, is_sheet_only: bool = False, mode: str | None = None) -> O
     _test_end(reader, count_lines(data), outcome)
     if reader.sheet is not None:
         outcome.doubts.extend(sheet_doubts(reader.sheet, mode == "table"))
+        outcome.doubts.extend(day_doubts(data, reader.sheet))
         if reader.feed_reader is not None and not is_sheet_only:
             question = {"whatif": "when", "save": ""}.get(mode, "ask")
             outcome.doubts.extend(feed_doubts(reader.sheet, entries, question))

@@ -21,6 +21,7 @@ from .evening import Evening
 from .livelog import LiveLog
 from .modes import DECIDE
 from .onair import Live
+from .sheet_marks import test_marks
 
 
 def add_arguments(parser: argparse.ArgumentParser) -> None:
@@ -52,6 +53,8 @@ def run(arguments: argparse.Namespace) -> int:
     try:
         aliases = read_aliases(arguments.aliases)
         evening = Evening(Bookkeeper(sheet, b"", arguments.sheet, aliases=aliases))
+        test_marks([(arguments.sheet, sheet), (arguments.log, log.read())])
+        log.mark(evening.book.sheet)
         live = Live(evening, log, sheet, arguments)
         live.begin()
         live.go_on()

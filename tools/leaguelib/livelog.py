@@ -7,12 +7,13 @@ that lines of several hands are taken in the order in which they stand there.
 from __future__ import annotations
 
 import fcntl
-import itertools
 import os
 import time
 from typing import BinaryIO
 
-from . import common
+from . import common, writing
+from .sheet_marks import missing_mark
+from .texts import Sheet
 
 PATIENCE_SECONDS = 1.0
 GLANCE_SECONDS = 0.02
@@ -45,6 +46,12 @@ class LiveLog:
         self._stamp = self._stamp_now()
         return data
 
+    def mark(self, sheet: Sheet) -> None:
+        """Adds the mark of the sheet, unless it is there."""
+        mark = missing_mark(sheet, self.known)
+        if mark:
+            self.append(*mark)
+
     def lines(self) -> int:
         """How many lines were taken so far."""
         return self.known.count(b"\n")
@@ -53,10 +60,10 @@ class LiveLog:
         """Notes a line, from 1, that is no line of a feed: whoever takes it out changes nothing."""
         self._refused.add(line)
 
-    def append(self, line: str) -> None:
-        """Adds a line, down to the disk; it is taken with the next `grown`."""
+    def append(self, *lines: str) -> None:
+        """Adds lines, down to the disk, all or none; they are taken with the next `grown`."""
         self._wait_for_line_end()
-        self._write(line.encode("utf-8", "surrogateescape") + b"\n")
+        self._write(b"".join(line.encode("utf-8", "surrogateescape") + b"\n" for line in lines))
 
     def grown(self) -> list[str]:
         """The whole lines that stand after those taken so far, whoever wrote them."""
@@ -119,9 +126,7 @@ class LiveLog:
             return b""
 
     def _write(self, data: bytes) -> None:
-        self._file.write(data)
-        self._file.flush()
-        os.fsync(self._file.fileno())
+        writing.append(self.path, data)
 
     def _stamp_now(self) -> tuple[int, ...]:
         """What changes when the file does."""
@@ -143,22 +148,16 @@ class LiveLog:
 
     def _go_beside(self) -> None:
         """Goes on in a file of its own: what was taken already is no longer what the log has."""
-        old, beside = self.path, _free_name(self.path + BESIDE)
+        old, beside = self.path, writing.free_name(self.path + BESIDE)
         self._file.close()
         self.known, self._refused = self._mended(), set()
+        writing.replace(beside, self.known)
         self._file = _opened(beside)
         self.path = beside
-        self._write(self.known)
         self._stamp = self._stamp_now()
         self.notes.append(f"{old}: another program changed or removed lines of it. Nothing is "
                           f"lost: all that was taken is in {beside}, which is the log "
                           "from now on")
-
-
-def _free_name(path: str) -> str:
-    """The name, or with a number after it where it is taken."""
-    names = (path + (str(number) if number > 1 else "") for number in itertools.count(1))
-    return next(name for name in names if not os.path.exists(name))
 
 
 def _opened(path: str) -> BinaryIO:
@@ -172,6 +171,7 @@ def _opened(path: str) -> BinaryIO:
         fcntl.flock(file, fcntl.LOCK_EX | fcntl.LOCK_NB)
     except OSError as fault:
         file.close()
-        raise common.Trouble(f"{path}: another `league live` keeps this log",
+        raise common.Trouble(f"{path}: another `league live` keeps this log. Type there, or wait "
+                             "for its end",
                              common.CANNOT_WRITE) from fault
     return file

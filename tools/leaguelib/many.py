@@ -10,10 +10,9 @@ import argparse
 import hashlib
 import os
 import tempfile
-from pathlib import Path
 from typing import Iterable, Iterator
 
-from . import common
+from . import common, writing
 from .many_asks import ASKS, DAYS, END, MATCHDAYS
 from .many_engines import BATCH, ENGINES, Engine
 from .many_journal import Journal
@@ -190,11 +189,4 @@ def _write(tasks: list[Task], journal: Journal, arguments: argparse.Namespace) -
         for text in texts:
             common.write_text(text)
         return
-    new = Path(f"{path}.new")
-    try:
-        with open(new, "w", encoding="utf-8", newline="") as file:
-            file.writelines(texts)
-        os.replace(new, path)
-    except OSError as fault:
-        raise common.Trouble(f"{path}: cannot be written: {fault.strerror}",
-                             common.CANNOT_WRITE) from fault
+    writing.replace(path, (text.encode("utf-8") for text in texts))

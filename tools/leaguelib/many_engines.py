@@ -14,7 +14,7 @@ import subprocess
 import time
 from dataclasses import dataclass
 
-from . import common
+from . import common, writing
 from .many_journal import Journal
 from .many_league import Settings, part_of
 from .many_list import Task
@@ -107,9 +107,9 @@ def run_slurm(engine: Engine, waiting: dict[str, Task]) -> None:
                               most)
     script = journal.folder / "array.sh"
     place = shlex.quote(str(journal.folder))
-    script.write_text("#!/bin/sh\n"
-                      f"cd {place} && exec python3 {SHIPPED} many --worker --journal {place} \\\n"
-                      "    \"tasks/$SLURM_ARRAY_TASK_ID.json\"\n", "utf-8")
+    text = (f"#!/bin/sh\ncd {place} && exec python3 {SHIPPED} many --worker --journal {place} \\\n"
+            "    \"tasks/$SLURM_ARRAY_TASK_ID.json\"\n")
+    writing.replace(str(script), text.encode("utf-8", "surrogateescape"))
     array = f"1-{len(paths)}" + (f"%{engine.jobs}" if engine.jobs else "")
     command = [submit, "--wait", "--parsable", "--no-requeue", f"--array={array}",
                "--job-name=futmax", "--output=/dev/null", *engine.words, str(script)]

@@ -7,12 +7,10 @@ from __future__ import annotations
 import fcntl
 import hashlib
 import json
-import os
-import tempfile
 from pathlib import Path
 from typing import Iterable
 
-from . import common
+from . import common, writing
 from .many_league import Part, part_of
 
 
@@ -39,7 +37,7 @@ class Journal:
                                  "or name another one by --journal.", common.CANNOT_WRITE) from fault
         except OSError:
             pass  # a file system without locks
-        for path in self.parts.glob(".new-*"):
+        for path in self.parts.glob(f"{writing.ASIDE}*"):
             path.unlink()
         self._drop_tasks()
 
@@ -58,10 +56,8 @@ class Journal:
         What a broken machine leaves of a file is no part, and its league is asked again.
         """
         try:
-            handle, path = tempfile.mkstemp(prefix=".new-", dir=self.parts)
-            with open(handle, "w", encoding="ascii") as file:
-                file.write(json.dumps(part.as_object()))
-            os.replace(path, self.path_of(part.league))
+            text = json.dumps(part.as_object()).encode("ascii")
+            writing.put_whole(str(self.path_of(part.league)), [text], is_synced=False)
         except OSError as fault:
             raise self._trouble(fault) from fault
 
@@ -84,12 +80,14 @@ class Journal:
     def put_tasks(self, lines: Iterable[str], most: int) -> list[Path]:
         """Writes tasks into files of so many lines each, and gives the files."""
         self._drop_tasks()
+        every = [f"{line}\n".encode("ascii") for line in lines]
         paths: list[Path] = []
-        for number, line in enumerate(lines):
-            if number % most == 0:
+        try:
+            for first in range(0, len(every), most):
                 paths.append(self.tasks / f"{len(paths) + 1}.json")
-            with open(paths[-1], "a", encoding="ascii") as file:
-                file.write(f"{line}\n")
+                writing.put_whole(str(paths[-1]), every[first:first + most], is_synced=False)
+        except OSError as fault:
+            raise self._trouble(fault) from fault
         return paths
 
     def _drop_tasks(self) -> None:

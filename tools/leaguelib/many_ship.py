@@ -16,7 +16,7 @@ import tempfile
 import zipfile
 from pathlib import Path
 
-from . import common
+from . import common, writing
 
 MEMBER = "futmax"
 MAIN = """import sys
@@ -55,12 +55,7 @@ def _modules() -> list[tuple[str, bytes]]:
 
 def write_shipped(program: str, path: str, has_main: bool = True) -> None:
     """Writes the one file."""
-    try:
-        Path(path).write_bytes(shipped_bytes(program, has_main))
-        os.chmod(path, 0o755)
-    except OSError as fault:
-        raise common.Trouble(f"{path}: cannot be written: {fault.strerror}",
-                             common.CANNOT_WRITE) from fault
+    writing.replace(path, shipped_bytes(program, has_main), 0o755)
 
 
 def archive_path() -> str:
@@ -80,11 +75,7 @@ def unpacked_program() -> str:
                              "your own.", common.NO_PROGRAM)
     path = folder / f"futmax-{hashlib.sha256(data).hexdigest()[:16]}"
     if not path.exists() or path.read_bytes() != data:
-        handle, new = tempfile.mkstemp(dir=folder)
-        with open(handle, "wb") as file:
-            file.write(data)
-        os.chmod(new, 0o755)
-        os.replace(new, path)
+        writing.put_whole(str(path), [data], 0o755, is_synced=False)
     return str(path)
 
 

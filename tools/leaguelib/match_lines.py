@@ -7,6 +7,7 @@ from __future__ import annotations
 import re
 from dataclasses import dataclass, replace
 
+from .awards import plain_awards, without_walkover
 from .dates import MONTH, TIME, WEEKDAY, front_date, with_year
 from .match_list import Match, MatchList, Passed, Wrong
 from .names import shown
@@ -66,6 +67,7 @@ def parts_of(line: str, is_month_first: bool = False) -> Parts:
         if not TIME.sub("", rest):
             return Parts(None, date=date)
     rest = TIME.sub("", WEEKDAY.sub("", rest, count=1), count=1)
+    winner, rest = without_walkover(plain_awards(rest))
     running, rest = running_mark(rest)
     body, marks = _without_tails(VENUE.sub("", rest).strip())
     match, between = _names_of(body)
@@ -75,7 +77,8 @@ def parts_of(line: str, is_month_first: bool = False) -> Parts:
     told = still_running(told, running) if running else told
     if told.why:
         return Parts(None, date=date, why=told.why)
-    return Parts(replace(match, score=told.score, date=date), told, date)
+    told = Told(winner=winner) if winner else told
+    return Parts(replace(match, score=told.score, date=date, winner=winner), told, date)
 
 
 def _without_tails(text: str) -> tuple[str, list[str]]:
@@ -93,7 +96,7 @@ def _without_tails(text: str) -> tuple[str, list[str]]:
 def _is_tail(text: str) -> bool:
     """Whether a piece at the end of a line is none of the names."""
     inner = text.strip("()[]")
-    if re.match(r"^[-–—?*_]\s?[:-]\s?[-–—?*_]$", text) or is_clock(text):
+    if re.match(r"^[-–—?*_xX]\s?[:-]\s?[-–—?*_xX]$", text) or is_clock(text):
         return True
     if text[0] in "([":
         is_mark = bool(HALF_TIME.match(text) or mark_of(inner))
@@ -232,7 +235,7 @@ class LineReader:
 
 def note_told(found: MatchList, told: Told, number: int, line: str) -> None:
     """Notes what a place for a score told beside the goals."""
-    if told.score is None:
+    if told.score is None and not told.winner:
         word = f" ({told.word})" if told.word else ""
         remark = f", {told.remark}" if told.remark and told.word else ""
         found.passed.append(Passed(f"match without a score{word}{remark}", number, line))

@@ -4,30 +4,33 @@ from __future__ import annotations
 
 import re
 from collections import Counter
-from dataclasses import dataclass, field
+from dataclasses import dataclass, field, replace
 
 from .common import Trouble
+from .name_words import plain_form
 from .names import shown
 
 GROUP_HEAD = re.compile(r"(?:group|gruppe|grupo|gruppo|groupe|girone|poule)\s+([^\s:|]+)",
                         re.IGNORECASE)
 MATCHDAY = re.compile(r"(?:matchday|round|spieltag|jornada|giornata|journée|week|day)\s+\d",
                       re.IGNORECASE)
-MOST_QUOTED = 3
+MOST_QUOTED = 1
 MOST_WRONG = 10
 MOST_SHOWN = 120
+MOST_OF_PASSED = 60
 PLURALS = {"heading": "headings", "line with a date": "lines with a date",
            "line of scorers": "lines of scorers", "row of heads": "rows of heads",
            "line outside the cross table": "lines outside the cross table",
-           "match without a score": "matches without a score",
-           "result that is there already": "results that are there already"}
+           "match without a score": "matches without a score"}
 
 
 @dataclass(frozen=True)
 class Match:
     """A match by names, its score and date where they are known, and where it stands.
 
-    `text` is the line as it stands in the file; `file` is empty if it was typed.
+    `text` is the line as it stands in the file; `file` is empty if it was typed. `winner` is the
+    side to which it was awarded without a score; `turn` says which of how many matches of the same
+    two clubs in the list it is, from 0.
     """
 
     home: str
@@ -37,6 +40,8 @@ class Match:
     line: int = 0
     text: str = ""
     file: str = ""
+    winner: str = ""
+    turn: tuple[int, int] = (0, 0)
 
     @property
     def place(self) -> str:
@@ -60,7 +65,7 @@ class MatchList:
     `notes` are what looks odd, `passed` what was passed over and holds nothing that counts. Where
     it `is_cross`, each pair stands in it twice, however often they meet. `divisions` has the clubs
     of each value of a column like `Div`, by its head; `groups` the group of each club, where a
-    column or headings name it.
+    column or headings name it. `days` is the order of its dates like 8/15/2024, where they tell it.
     """
 
     matches: list[Match] = field(default_factory=list)
@@ -69,6 +74,7 @@ class MatchList:
     passed: list[Passed] = field(default_factory=list)
     file: str = ""
     is_cross: bool = False
+    days: str = ""
     divisions: dict[str, dict[str, set[str]]] = field(default_factory=dict)
     groups: dict[str, str] = field(default_factory=dict)
 
@@ -98,6 +104,20 @@ class MatchList:
                               f"club: {values}. A sheet is one league: keep the rows of one of "
                               f"them under the heads, or give --as-is if they are one league")
 
+    def note_turns(self) -> None:
+        """Notes which of how many matches of the same two clubs each one is, in the order of the
+        list; of none where their dates have another order.
+        """
+        places: dict[tuple[str, str], list[int]] = {}
+        for place, match in enumerate(self.matches):
+            key = (plain_form(match.home), plain_form(match.away))
+            places.setdefault(key, []).append(place)
+        for held in places.values():
+            dates = [self.matches[place].date for place in held]
+            if len(held) > 1 and dates == sorted(dates):
+                for turn, place in enumerate(held):
+                    self.matches[place] = replace(self.matches[place], turn=(turn, len(held)))
+
     def add(self, match: Match) -> None:
         """Takes a match."""
         self.matches.append(match)
@@ -108,7 +128,8 @@ class MatchList:
         parts = []
         for why, number in counts.items():
             first = [one for one in self.passed if one.why == why][:MOST_QUOTED]
-            lines = "; ".join(f"line {one.line} {quoted(one.text)}" for one in first)
+            lines = "; ".join(f"line {one.line} {quoted(one.text, MOST_OF_PASSED)}"
+                              for one in first)
             more = ", .." if number > len(first) else ""
             parts.append(f"{number} {plural(why, number)} ({lines}{more})")
         return f"{self.file or 'the list'}: skipped: " + ", ".join(parts) if parts else ""
@@ -124,10 +145,10 @@ def plural(why: str, number: int) -> str:
     return why
 
 
-def quoted(text: str) -> str:
+def quoted(text: str, most: int = MOST_SHOWN) -> str:
     """A line as a message shows it, and no more than its front where it is long."""
     line = text.rstrip("\r\n").strip()
-    return shown(line if len(line) <= MOST_SHOWN else line[:MOST_SHOWN] + "..")
+    return shown(line if len(line) <= most else line[:most] + "..")
 
 
 class Wrong:

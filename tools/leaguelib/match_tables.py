@@ -111,7 +111,7 @@ class TableReader:
         note_told(self.found, told, number, line)
         self.found.add(Match(names[0], names[1], told.score,
                              plain_date(cell(self.columns.date), self.is_month_first), number,
-                             line, self.found.file))
+                             line, self.found.file, told.winner))
 
     def _names(self, cell) -> tuple[str, str] | None:
         """The two names of a row; none if one column has both and cannot be read."""
@@ -127,7 +127,7 @@ class TableReader:
         told += [read_score(cell(place)) for place in self.columns.scores if cell(place)]
         if any(LIKE_GOALS.match(cell(place)) for place in self.columns.lone):
             told.append(Told(why="the goals of one side are missing"))
-        found = next((one for one in told if one.score is not None), None)
+        found = next((one for one in told if one.score is not None or one.winner), None)
         return found or next((one for one in told if one.why or one.word), Told())
 
     def _note_loose(self, number: int, cells: list[str]) -> None:

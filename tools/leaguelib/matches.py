@@ -9,9 +9,9 @@ from __future__ import annotations
 import json
 from dataclasses import replace
 
-from .common import Trouble
+from .common import Trouble, test_list
 from .crosses import cross_of, read_cross, test_divided
-from .dates import plain_date, slashed_order
+from .dates import SLASHED, plain_date, slashed_order, unclear_day
 from .files import examine, without_mark
 from .headless import plan_of, read_headless
 from .match_lines import LineReader, match_of_line, read_lines
@@ -22,9 +22,9 @@ __all__ = ["LineReader", "Match", "MatchList", "is_month_first", "lines_in", "ma
            "plain_date", "read_matches", "read_text", "text_of"]
 
 
-def text_of(data: bytes, notes: list[str]) -> str:
+def text_of(data: bytes, notes: list[str], file: str = "") -> str:
     """The text of a list, in whichever encoding it is stored; what was odd goes to the notes."""
-    examined = examine(data)
+    examined = examine(test_list(data, file))
     if not examined.is_readable:
         raise Trouble(examined.messages[0])
     notes.extend(examined.messages)
@@ -42,39 +42,57 @@ def lines_in(text: str) -> list[str]:
     return [line.lstrip("\ufeff") for line in text.replace("\r\n", "\n").split("\n")]
 
 
-def is_month_first(text: str, file: str) -> bool:
-    """Whether dates like 8/15/2024 have the month first; raises `Trouble` if both stand."""
+def is_month_first(text: str, file: str, days: str = "") -> bool:
+    """Whether dates like 8/15/2024 have the month first; raises `Trouble` if both stand, or if
+    nothing tells it: neither a date, nor the days that were told.
+    """
     order = slashed_order(text)
+    where = f"{file}: " if file else ""
     if order == "both":
-        where = f"{file}: " if file else ""
         raise Trouble(f"{where}some dates have the month first, like 8/15/2024, and others the "
                       f"day, like 15/8/2024. Write all in one way, best as 2024-08-15")
-    return order == "month"
+    unclear = unclear_day(text)
+    if not order and unclear and not days:
+        raise Trouble(f"{where}is the day or the month first in {unclear}? No date of the list "
+                      "tells it. Say --days day-first or --days month-first: `league sheet` keeps "
+                      "it in the sheet, where the line `# days: day-first` does the same")
+    return order == "month" or (not order and days == "month-first")
 
 
-def read_matches(data: bytes, file: str = "", needs_scores: bool = False) -> MatchList:
+def read_matches(data: bytes, file: str = "", needs_scores: bool = False,
+                 days: str = "") -> MatchList:
     """The matches of a list; raises `Trouble` with every line that is not understood.
 
     Where scores are needed, a table without a column for them is refused.
     """
     notes: list[str] = []
-    text = text_of(data, notes)
-    found = read_text(text, file, needs_scores)
+    text = text_of(data, notes, file)
+    found = read_text(text, file, needs_scores, days)
     found.note_groups()
     front = f"{file}: " if file else ""
     found.notes = [front + note for note in notes] + found.notes
     return found
 
 
-def read_text(text: str, file: str, needs_scores: bool = False) -> MatchList:
-    """The matches of a list as text."""
+def read_text(text: str, file: str, needs_scores: bool = False, days: str = "") -> MatchList:
+    """The matches of a list as text; `days` is the order of its dates where none of them tells it.
+    """
+    found = _read_form(text, file, needs_scores, days)
+    order = slashed_order(text) or ("day" if days == "day-first" else days and "month")
+    found.days = f"{order}-first" if order and SLASHED.search(text) else ""
+    found.note_turns()
+    return found
+
+
+def _read_form(text: str, file: str, needs_scores: bool, days: str) -> MatchList:
+    """The matches of a list, by the reader of its form."""
     lines = lines_in(text)
     _test_form(text, file)
     if any(line.startswith(("league,", "cup,")) for line in lines[:50]):
         where = f"{file}: " if file else ""
         raise Trouble(f"{where}this is a sheet already, and no list of matches: `league lint` "
                       "looks at it")
-    order = is_month_first(text, file)
+    order = is_month_first(text, file, days)
     try:
         head = head_of(lines)
     except Trouble as trouble:

@@ -1,8 +1,9 @@
 """Names as people type them: the club that is meant, the same name in another spelling, and the
 nearest name.
 
-`club_of` says for the whole of `league` which club a name means. A part of a name is taken only
-where one club alone has it; nothing is guessed from how a name looks.
+`club_of` says for the whole of `league` which club a name means. A part of a name, a short name that
+everybody knows and initials are taken only where one club alone has them; nothing is guessed from
+how a name looks.
 """
 
 from __future__ import annotations
@@ -12,19 +13,11 @@ import re
 import unicodedata
 from typing import Iterable, Mapping
 
-INVISIBLE = "\u200b\u200c\u200d\u2060\ufeff\u00ad"
-SPACES = " \t\u00a0\u2007\u202f\u3000" + INVISIBLE
-APOSTROPHES = "'’‘ʼ´`"
-DASHES = "-\u2010\u2011\u2012\u2013\u2014\u2015\u2212\ufe58\ufe63\uff0d"
-LETTERS = str.maketrans({"ø": "o", "Ø": "o", "ł": "l", "Ł": "l", "đ": "d", "Đ": "d", "ı": "i",
-                         "æ": "ae", "Æ": "ae", "œ": "oe", "Œ": "oe", "ð": "d", "þ": "th"})
-CLUB_WORDS = frozenset("fc afc cf sc sv ac as fk sk nk if bk ff cd ud sd club the & and und 1"
-                       .split())
+from .name_words import (INVISIBLE, OTHER_TEAMS, core_words, is_short_for, plain_form, tidy,
+                         words_in)
+from .short_names import has_initials, is_well_known
+
 ALL_CLUBS = "; the clubs are "
-OTHER_TEAMS = frozenset("ii iii iv b c 2 3 u17 u18 u19 u20 u21 u23 women ladies girls frauen "
-                        "femenino femminile feminines youth reserves".split())
-
-
 class UnknownName(Exception):
     """A name that means no club, or several: what to say, and the clubs that may be meant."""
 
@@ -32,20 +25,6 @@ class UnknownName(Exception):
         super().__init__(message)
         self.message = message
         self.candidates = candidates
-
-
-def tidy(text: str) -> str:
-    """The text without spaces and invisible signs at its ends."""
-    return text.strip(SPACES)
-
-
-def plain_form(name: str) -> str:
-    """A form in which names are the same that differ in case, accents, spaces or points alone."""
-    opened = unicodedata.normalize("NFKD", name.translate(LETTERS))
-    kept = [sign for sign in opened if not unicodedata.combining(sign) and sign not in INVISIBLE]
-    apart = ".,_/" + APOSTROPHES + DASHES
-    words = "".join(" " if sign in apart else sign for sign in kept).casefold().split()
-    return " ".join(words)
 
 
 def club_of(name: str, names: Iterable[str], aliases: Mapping[str, str] | None = None) -> str:
@@ -61,7 +40,7 @@ def club_of(name: str, names: Iterable[str], aliases: Mapping[str, str] | None =
     alias = (aliases or {}).get(plain_form(typed))
     if alias is not None:
         return _club_of_alias(typed, alias, every)
-    for is_meant in (_is_same, _is_same_club, _is_part, _has_part, _is_shortened):
+    for is_meant in WAYS.values():
         found = [other for other in every if is_meant(typed, other)]
         if len(found) == 1:
             return found[0]
@@ -70,7 +49,8 @@ def club_of(name: str, names: Iterable[str], aliases: Mapping[str, str] | None =
                               found)
     near = nearest_name(typed, every)
     hint = f"the nearest name is {shown(near)}" if near else (
-        ", ".join(every) + ". Other names can be in a file (--aliases)")
+        ", ".join(every) + ". Other names can be in a file (--aliases), or in the "
+        "sheet (`league names`)")
     sign = "; " if near else ALL_CLUBS
     raise UnknownName(f"no club is called {shown(typed)}{sign}{hint}", [near] if near else [])
 
@@ -90,22 +70,11 @@ def listed_or(names: list[str]) -> str:
     return ", ".join(texts[:-1]) + " or " + texts[-1] if len(texts) > 1 else "".join(texts)
 
 
-def words_in(name: str) -> list[str]:
-    """The words of a name in their plain form; an apostrophe divides none."""
-    return plain_form("".join(sign for sign in name if sign not in APOSTROPHES)).split()
-
-
-def core_words(name: str) -> list[str]:
-    """The words of a name without those that many clubs have, like FC; all if none is left."""
-    every = words_in(name)
-    return [word for word in every if word not in CLUB_WORDS] or every
-
-
 def _is_same(typed: str, name: str) -> bool:
     return plain_form(typed) != "" and plain_form(typed) == plain_form(name)
 
 
-def _is_same_club(typed: str, name: str) -> bool:
+def is_same_club(typed: str, name: str) -> bool:
     """Whether two names are one but for words like FC, and for an umlaut written as two letters."""
     first, second = " ".join(core_words(typed)), " ".join(core_words(name))
     return first != "" and (first == second or _without_umlauts(first) == _without_umlauts(second))
@@ -135,22 +104,12 @@ def _stand_in(words: list[str], longer: list[str]) -> bool:
     """Whether each word is, in order, one of the others or short for it."""
     place = 0
     for word in words:
-        while place < len(longer) and not _is_short_for(word, longer[place]):
+        while place < len(longer) and not is_short_for(word, longer[place]):
             place += 1
         if place == len(longer):
             return False
         place += 1
     return bool(words)
-
-
-def _is_short_for(word: str, whole: str) -> bool:
-    """Whether a word begins the other, or leaves out letters of its middle, as `Utd` does."""
-    if word == whole or (len(word) > 1 and whole.startswith(word)):
-        return True
-    if len(word) < 3 or len(word) > 0.6 * len(whole):
-        return False
-    letters = iter(whole)
-    return (word[0], word[-1]) == (whole[0], whole[-1]) and all(sign in letters for sign in word)
 
 
 def _is_shortened(typed: str, name: str) -> bool:
@@ -163,7 +122,7 @@ def _is_shortened(typed: str, name: str) -> bool:
         return False
     place = 0
     for word in words:
-        while place < len(core) and not (_is_short_for(word, core[place])
+        while place < len(core) and not (is_short_for(word, core[place])
                                          or _is_spoken_for(word, core[place])):
             place += 1
         place += 1
@@ -176,6 +135,11 @@ def _is_spoken_for(word: str, whole: str) -> bool:
         return whole.startswith(word)
     return len(word) > 5 and word.endswith("s") and whole.startswith(word[:-1]) and (
         word[:-1] != whole)
+
+
+WAYS = {"the same name": _is_same, "the same club": is_same_club, "a part of it": _is_part,
+        "more than it": _has_part, "well known": is_well_known, "its initials": has_initials,
+        "short for it": _is_shortened}
 
 
 def same_name(name: str, names: Iterable[str]) -> str | None:

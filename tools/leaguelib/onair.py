@@ -10,7 +10,6 @@ from . import common
 from .answer_end import AnswerEnd
 from .asker import Asker
 from .asking import run_mode
-from .bookkeeper import Unclear
 from .evening import Evening, is_event, kind_of
 from .line_names import names_in
 from .linesource import LineSource, Prompt
@@ -22,6 +21,8 @@ from .progress import Progress
 from .records import lines_of, row_text
 from .running import report_of
 from .session import Ended, Session
+from .sheet_dates import moved
+from .slips import Unclear
 from .texts import Fixture
 from .voices import HELP, Rows, Speaker, events_text, words_of_answer
 from .wording import days_of
@@ -132,34 +133,39 @@ class Live:
             elif fixture is not None:
                 self._when(fixture)
             else:
-                self._keep(self.evening.line_of(text))
+                self._keep(self.evening.lines_of(text))
         except Unclear as unclear:
             self.refused += 1
             self.is_refused = not unclear.offers_undo
             self.voice.refused(f"line {self.typed}, {quoted(text.strip())}: refused, not sent: "
                                f"{unclear.message}")
+        except common.Trouble as trouble:
+            if trouble.status != common.CANNOT_WRITE:
+                raise
+            self.refused += 1
+            self.voice.refused(f"line {self.typed}, {quoted(text.strip())}: not kept, not sent: "
+                               f"{trouble.message}. Make room, and type it again")
         return False
 
-    def _keep(self, line: str | None) -> None:
-        """Writes a tested line to the log, and takes it from there."""
+    def _keep(self, lines: list[str]) -> None:
+        """Writes tested lines to the log, and takes them from there."""
         for note in self.book.take_notes():
             self.voice.tell(note)
-        if line is not None and kind_of(line) == "ask":
+        if [kind_of(line) for line in lines] == ["ask"]:
             self._answer()
-        elif line is not None:
-            self.log.append(line)
-            self.take_in(own=line)
+        elif lines:
+            self.log.append(*lines)
+            self.take_in(own=lines)
 
     def _undo(self) -> None:
         """Takes the last line back by the feed's own records."""
         lines = self.evening.back()
         if not lines:
             raise Unclear("there is nothing to take back")
-        for line in lines:
-            self.log.append(line)
-        self.take_in(own=lines[-1])
+        self.log.append(*lines)
+        self.take_in(own=lines)
 
-    def take_in(self, before: object = None, own: str | None = None) -> bool:
+    def take_in(self, before: object = None, own: list[str] | None = None) -> bool:
         """Takes the lines that the log has beyond those taken; whether there were some."""
         first = self.log.lines() + 1
         lines = self.log.grown()
@@ -168,9 +174,10 @@ class Live:
             before()
         for note in notes:
             self.voice.tell(note)
-        for number, line in enumerate(lines, first):
-            is_own = number == first + len(lines) - 1 and line == own
-            self._take_line(line, number, is_own)
+        behind = len(lines) - len(own or [])
+        is_own = bool(own) and lines[behind:] == own
+        for place, line in enumerate(lines):
+            self._take_line(line, first + place, is_own and place >= behind)
         return bool(lines or notes)
 
     def _take_line(self, line: str, number: int, is_own: bool) -> None:
@@ -243,7 +250,8 @@ class Live:
         """What each of the next matches can decide by itself."""
         self._refuse_cup()
         sheet, season = self.book.sheet, self.book.feed.season
-        fixtures = next_matches(sheet, season, days_of(self.asker.data, sheet))
+        days = moved(days_of(self.asker.data, sheet), self.book.ledger.days())
+        fixtures = next_matches(sheet, season, days)
         if not fixtures:
             raise Unclear("no match is open, or so many that the next ones need dates in the "
                           "sheet, twelve a day at most")

@@ -35,16 +35,16 @@ class Outlook:
 
 
 def next_matches(sheet: Sheet, season: Season, days: dict[int, str]) -> list[Fixture]:
-    """The open matches of the next day; all of them where no day is known and they are few."""
+    """The open matches of the next day; all of them where no day is known and they are few.
+
+    Among matchdays a date is that of a match that was postponed: it waits for its day.
+    """
     still = season.open_fixtures(sheet)
-    dated = [it for it in still if ISO_DATE.match(days.get(it.number, ""))]
-    if dated:
-        day = min(days[it.number] for it in dated)
-        found = [it for it in dated if days[it.number] == day]
-    elif still and days.get(still[0].number):
-        found = [it for it in still if days.get(it.number) == days[still[0].number]]
-    else:
-        found = still
+    known = [days[it.number] for it in still if days.get(it.number)]
+    dated = [day for day in known if ISO_DATE.match(day)]
+    other = [day for day in known if not ISO_DATE.match(day)]
+    day = other[0] if other else min(dated) if dated else ""
+    found = [it for it in still if days.get(it.number) == day] if day else still
     return found if len(found) <= MOST_MATCHES else []
 
 

@@ -24,6 +24,7 @@ from .progress import Progress
 from .records import Refused, fields_of
 from .report_faults import kind_of
 from .running import Run, ask_lines, report_of
+from .sheet_marks import test_marks
 from .saved import bad_save_text, parted, saved_part, without_saved
 from .stopped import Stop, stop_of, whole_report
 from .texts import Season
@@ -97,6 +98,7 @@ def resumed_of(files: list[tuple[str, bytes]], asks_first: bool = False) -> Resu
     for name, data in files[at + 1:]:
         for message in examine(data).messages:
             raise common.Trouble(f"{name}: {message}.")
+    test_marks(files[:at] + files[at + 1:])
     return _put_together(given_of(files[:at], adds_ask=False), files[at], files[at + 1:],
                          asks_first)
 

@@ -10,12 +10,11 @@ from __future__ import annotations
 
 import argparse
 import os
-import tempfile
 
-from . import common
+from . import common, writing
 from .asking import futmax_statuses, league_of, run_mode, with_budget
 from .front import add_one_budget
-from .given import Given, ended, gather
+from .given import Given, ended, gather, test_output
 from .line_names import asked_lines
 from .names import shown
 from .progress import Progress, add_progress_argument
@@ -53,7 +52,7 @@ def run(arguments: argparse.Namespace) -> int:
     if arguments.output == "-":
         common.write_text(done.output.decode("utf-8", "surrogateescape"))
     else:
-        replace(arguments.output, done.output)
+        writing.replace(arguments.output, done.output)
         common.write_text(_told(arguments, given, done.output))
     return common.DONE
 
@@ -65,12 +64,7 @@ def _test_names(arguments: argparse.Namespace) -> None:
         if path != "-" and not os.path.exists(path):
             raise common.Trouble(f"{path}: there is no such file. If the saved text is to go "
                                  f"there, write `-o {path}`.", common.CANNOT_READ)
-        try:
-            if arguments.output != "-" and os.path.samefile(path, arguments.output):
-                raise common.Trouble(f"-o: {path} is one of the files that are read. Name another "
-                                     "one for the saved text.", common.BAD_WORDS)
-        except OSError:
-            pass
+    test_output(arguments.files, arguments.output)
 
 
 def _test_text(given: Given, text: bytes) -> None:
@@ -103,37 +97,3 @@ def _told(arguments: argparse.Namespace, given: Given, text: bytes) -> str:
     words = " ".join([*named, arguments.output])
     return (paragraph(told) + "\n"
             + (f"Go on with: league resume {words} [NEW RESULTS]\n" if named else ""))
-
-
-def replace(path: str, data: bytes) -> None:
-    """Puts a file in place whole or not at all; one that was there before stays until then."""
-    folder = os.path.dirname(os.path.abspath(path))
-    new = None
-    try:
-        if os.path.exists(path) and not os.path.isfile(path):
-            with open(path, "wb") as target:  # a device or a pipe is written to, not replaced
-                target.write(data)
-            return
-        handle, new = tempfile.mkstemp(prefix=".league-", dir=folder)
-        with os.fdopen(handle, "wb") as file:
-            file.write(data)
-            file.flush()
-            os.fsync(file.fileno())
-        os.chmod(new, _mode_of(path))
-        os.replace(new, os.path.realpath(path))
-        new = None
-    except OSError as fault:
-        raise common.Trouble(f"{path}: cannot be written: {fault.strerror or fault}. What was "
-                             "there before is as it was.", common.CANNOT_WRITE) from fault
-    finally:
-        if new is not None and os.path.exists(new):
-            os.unlink(new)
-
-
-def _mode_of(path: str) -> int:
-    """The rights of a file: those that it has, or those of a new one."""
-    if os.path.exists(path):
-        return os.stat(path).st_mode & 0o777
-    mask = os.umask(0)
-    os.umask(mask)
-    return 0o666 & ~mask

@@ -6,13 +6,15 @@ import re
 from dataclasses import dataclass
 
 from .dates import MONTHS, folded
-from .names import DASHES, SPACES
+from .name_words import DASHES, SPACES
 
 GOALS = r"(0|[1-9]\d?)\s?[-:x]\s?(0|[1-9]\d?)"
 SCORE = re.compile(r"^" + GOALS + r"(?![\d:-])\s*")
 HALF_TIME = re.compile(r"^[(\[]?\s*(?:ht:?\s*)?\d{1,2}\s?[-:]\s?\d{1,2}"
                        r"(?:\s*[,;/]\s*\d{1,2}\s?[-:]\s?\d{1,2})*\s*[)\]]?$")
 FOOTNOTE = re.compile(r"(?:\[[a-z0-9 ]{1,6}\]|[*†‡])+$")
+WALKOVER = re.compile(r"(?:(?<=\s)|^)(?:([+x])\s?[:-]\s?[-–—−0]|[-–—−0]\s?[:-]\s?[+x])(?=\s|$)",
+                      re.IGNORECASE)
 CLOCK = re.compile(r"^(?:[01]?\d|2[0-3])[:.h][0-5]\d(?:\s?(?:uhr|hs?|[ap]m))?$")
 SPREADSHEET = re.compile(r"^(?:\d{1,2}[-. /]+(?:%s)[a-z]*\.?(?:[-. /]+\d{2,4})?|(?:%s)[a-z]*"
                          r"[-. /]+\d{1,4}|\d{1,2}[./]\d{1,2}[./]\d{2,4}|\d{4}-\d{2}-\d{2}.*)$"
@@ -28,8 +30,9 @@ OPEN_WORDS = frozenset((
     "cancelada interrompido int fixture sched scheduled").split()) | {"not played", "kick off"}
 AFTER_TIME = frozenset("aet a.e.t nv n.v dts d.t.s ap a.p prorroga prol".split())
 PENALTIES = frozenset("pen pens pso p.s.o ne n.e ie i.e dcr d.c.r tab t.a.b gp".split())
-AWARDED = frozenset("awd awarded wo w/o w.o walkover wertung wert gew forfeit forf tapis tav"
-                    .split())
+AWARDED = frozenset("awd awarded wo w/o w.o walkover wertung wert gew forfeit forf forfait tapis "
+                    "tav tavolino s.v".split()) | {"a tavolino", "tap. verde", "tap verde",
+                                                  "tapis vert", "by forfeit", "par forfait"}
 FINISHED = frozenset("ft full-time fulltime ended finished final beendet end fin".split())
 GOAL_DASH = re.compile(rf"(?<=[\d?])(\s?)[{re.escape(DASHES)}](?=\s?[\d?])")
 MARK = r"(?:%s)\.?" % "|".join(sorted(map(re.escape, AFTER_TIME | PENALTIES | AWARDED | FINISHED),
@@ -45,12 +48,19 @@ RUNNING = re.compile(
     rf"|^(?:half[- ]?time|ht)(?=\s)|(?<=\d)\s+(?!live){BREAK}(?=\s+[^\W\d]))", re.IGNORECASE)
 
 
+PARTS = re.compile(r"\([^)]*\)|\[[^\]]*\]|(?:%s)(?=\s|$)|[^\s()\[\]]+" % "|".join(
+    re.escape(word) for word in sorted(AWARDED) if " " in word), re.IGNORECASE)
+LEADING = re.compile(r"^(%s)\.?:?\s+(\d.*)$" % "|".join(sorted(map(re.escape, AWARDED), key=len,
+                                                               reverse=True)))
+
+
 @dataclass(frozen=True)
 class Told:
     """What a place for a score tells: the goals, if any, and what has to be said about it.
 
     `why` says why it cannot be read; nothing if it can. `word` is what marks a match as open,
-    and `in_play` the goals so far of one that has not ended.
+    `in_play` the goals so far of one that has not ended, and `winner` the side, `home` or `away`,
+    to which the match was awarded without a score.
     """
 
     score: tuple[int, int] | None = None
@@ -58,6 +68,7 @@ class Told:
     why: str = ""
     word: str = ""
     in_play: tuple[int, int] | None = None
+    winner: str = ""
 
 
 def running_mark(text: str) -> tuple[str, str]:
@@ -98,6 +109,10 @@ def read_score(text: str) -> Told:
     line = line.replace("∶", ":").replace("：", ":")
     if line in NO_SIGNS:
         return Told()
+    awarded = WALKOVER.fullmatch(line.strip("()[] "))
+    if awarded:
+        return Told(winner="home" if awarded.group(1) else "away")
+    line = LEADING.sub(r"\2 \1", line)
     if is_clock(line):
         return Told(word=text.strip(), remark="a time of day")
     if line in ODD_SIGNS or line.strip(".()[] ") in OPEN_WORDS:
@@ -112,7 +127,7 @@ def read_score(text: str) -> Told:
 def with_marks(score: tuple[int, int], rest: str) -> Told:
     """A score with what stands after it: half time, extra time, a word on how it came about."""
     remark = ""
-    for part in re.findall(r"\([^)]*\)|\[[^\]]*\]|[^\s()\[\]]+", rest):
+    for part in PARTS.findall(rest):
         word = mark_of(part)
         if HALF_TIME.match(part) or word == "finished":
             continue
@@ -175,6 +190,9 @@ def read_goals(home: str, away: str) -> Told:
     if all(part == "" for part in texts):
         return Told()
     told = [read_score(part) for part in texts]
+    awarded = WALKOVER.fullmatch(":".join("-" if part in DASHES else part for part in texts))
+    if awarded:
+        return Told(winner="home" if awarded.group(1) else "away")
     goals = [re.match(r"^(\d{1,2})(?:[.,]0*)?$", part) for part in texts]
     if all(goals):
         return Told((int(goals[0].group(1)), int(goals[1].group(1))))

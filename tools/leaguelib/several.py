@@ -12,7 +12,7 @@ from . import common
 from .dates import is_same_day
 from .match_list import Match, MatchList
 from .matches import read_matches, renamed
-from .names import plain_form
+from .name_words import plain_form
 
 FULL_DATE = re.compile(r"^\d{4}-\d{2}-\d{2}$")
 
@@ -22,14 +22,15 @@ def file_name(path: str) -> str:
     return "standard input" if path == "-" else path
 
 
-def read_lists(paths: list[str], aliases: dict[str, str] | None = None) -> MatchList:
+def read_lists(paths: list[str], aliases: dict[str, str] | None = None,
+               days: str = "") -> MatchList:
     """The matches of all lists together; raises `Trouble` with what is wrong in any of them."""
     lists, wrong = [], []
     if paths.count("-") > 1:
         raise common.Trouble("standard input can be read once: give `-` once", common.BAD_WORDS)
     for path in paths:
         try:
-            lists.append(read_matches(common.read_bytes(path), file_name(path)))
+            lists.append(read_matches(common.read_bytes(path), file_name(path), days=days))
         except common.Trouble as trouble:
             if trouble.status != common.TO_MEND or len(paths) == 1:
                 raise
@@ -55,6 +56,7 @@ def joined(lists: list[MatchList]) -> MatchList:
     for found in lists:
         whole.notes += found.notes
         whole.passed += found.passed
+        whole.days = whole.days or found.days
         whole.groups = {**found.groups, **whole.groups}
         for head, values in found.divisions.items():
             for value, clubs in values.items():

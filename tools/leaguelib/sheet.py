@@ -18,11 +18,14 @@ from .cup_sheet import add_cup_arguments, cup_groups, cup_notes, cup_text, group
 from .doubts import name_doubts
 from .feeds import InputReader
 from .line_names import LineNames, add_name_arguments, comments_of, told_names
+from .list_settings import ListSettings, add_list_arguments, comments_for
 from .match_list import Match, MatchList
 from .names import nearest_name, shown
 from .pairs import Gaps, gaps_in, lone_names, look_at_cross, usual_rounds
 from .records import Refused, number_of, records_of, row_text
 from .several import read_lists
+from .sheet_files import add_overwrite_arguments, put_sheet
+from .sheet_update import run_update
 from .texts import MOST_LINES, ORDERS, USUAL_BUDGET
 from .wording import counted
 from .words import words_for
@@ -56,22 +59,30 @@ def add_arguments(parser: argparse.ArgumentParser) -> None:
                         help="lines NAME,RANK: the clubs in their order, with their ranks")
     add_cup_arguments(parser)
     add_alias_argument(parser)
+    add_list_arguments(parser)
     parser.add_argument("--rounds", type=int, metavar="N", help="how often each pair meets")
     parser.add_argument("--as-is", action="store_true", help="the list is meant as it is")
     parser.add_argument("--no-comments", action="store_true", help="write records alone")
-    parser.add_argument("-o", "--output", default="-", metavar="FILE", help="file for it; "
-                                                                            "otherwise standard "
-                                                                            "output")
+    parser.add_argument("-o", "--output", default="-", metavar="FILE",
+                        help="file for it; otherwise standard output. A sheet that a feed stands "
+                             "on is overwritten only if each match keeps its number")
+    parser.add_argument("--update", metavar="OLD",
+                        help="only give the matches of the sheet OLD the dates that the lists "
+                             "have now, and add new matches after them; OLD is overwritten "
+                             "unless -o names another file")
+    add_overwrite_arguments(parser)
 
 
 def run(arguments: argparse.Namespace) -> int:
     """Makes the sheet, or says what is missing."""
+    if arguments.update is not None:
+        return run_update(arguments)
     if arguments.runners_up is not None or arguments.groups:
         return _run_cup(arguments)
     if not arguments.lists:
         raise common.Trouble("name a LIST of fixtures, or `-` for standard input",
                              common.BAD_WORDS)
-    found = read_lists(arguments.lists, read_aliases(arguments.aliases))
+    found = read_lists(arguments.lists, read_aliases(arguments.aliases), arguments.days or "")
     if not found.matches:
         raise common.Trouble("the list has no matches")
     if not arguments.as_is:
@@ -92,10 +103,7 @@ def run(arguments: argparse.Namespace) -> int:
     text = _text(found, gaps, ranks, records, order, arguments)
     notes = found.notes + _open_words(found) + list(_test(text)) + gaps.notes()
     notes += lone_names(found.matches) if gaps.missing else []
-    common.write_text(text, arguments.output)
-    for note in notes:
-        common.say(f"league: {note}")
-    return common.DOUBTFUL if notes else common.DONE
+    return _written(text, notes, arguments)
 
 
 def _run_cup(arguments: argparse.Namespace) -> int:
@@ -105,6 +113,7 @@ def _run_cup(arguments: argparse.Namespace) -> int:
                              common.BAD_WORDS)
     _test_rounds(arguments)
     found, groups = cup_groups(arguments)
+    arguments.days = arguments.days or found.days
     name = arguments.name or found.title
     if not name:
         raise common.Trouble("what is the cup called? Say --name \"NAME\"", common.BAD_WORDS)
@@ -115,10 +124,15 @@ def _run_cup(arguments: argparse.Namespace) -> int:
         arguments.ranks, [club for group in groups for club in group.clubs])
     text = cup_text(name, groups, gaps, ranks, arguments)
     notes = found.notes + _open_words(found) + list(_test(text)) + cup_notes(found, gaps)
-    common.write_text(text, arguments.output)
+    return _written(text, notes, arguments)
+
+
+def _written(text: str, notes: list[str], arguments: argparse.Namespace) -> int:
+    """Writes the sheet, says what to look at, and gives the status."""
+    is_written = put_sheet(text, arguments)
     for note in notes:
         common.say(f"league: {note}")
-    return common.DOUBTFUL if notes else common.DONE
+    return common.DONE if is_written else common.TO_MEND
 
 
 def _test_rounds(arguments: argparse.Namespace) -> None:
@@ -188,7 +202,7 @@ def _ranks(path: str | None, clubs: list[str]) -> dict[str, int]:
         return {name: 1 for name in names}
     ranks: dict[str, int] = {}
     try:
-        for record in records_of(common.read_bytes(path)):
+        for record in records_of(common.test_list(common.read_bytes(path), path)):
             fields = record.fields[1:] if record.kind == "club" else record.fields
             rank = number_of(fields[1].strip()) if len(fields) == 2 else None
             if rank is None or not 1 <= rank <= 999:
@@ -273,7 +287,8 @@ def _comments(found: MatchList, gaps: Gaps, ranks: dict[str, int], order: str,
         comments.append("# Level on points: head-to-head record first (head_first).")
     else:
         comments.append("# Level on points: goal difference and goals first (overall_first).")
-    return [comment + "\n" for comment in comments]
+    settings = ListSettings(arguments.days or found.days, arguments.walkover)
+    return [comment + "\n" for comment in comments] + comments_for(settings)
 
 
 def _test(text: str) -> list[str]:

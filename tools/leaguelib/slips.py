@@ -9,6 +9,30 @@ from .score_texts import Told
 from .texts import Entry, Fixture, Season, Sheet
 
 
+class Unclear(Exception):
+    """A line that cannot be turned into a line of the feed, and why; whether `undo` is offered."""
+
+    def __init__(self, message: str, offers_undo: bool = False) -> None:
+        super().__init__(message)
+        self.message = message
+        self.offers_undo = offers_undo
+
+
+class Known(Unclear):
+    """A line that would change nothing, since what it says stands already."""
+
+
+class Changed(Unclear):
+    """A result of a match that has another one; `correction` is the record that would replace it,
+    and `typed` how a person writes it.
+    """
+
+    def __init__(self, message: str, correction: str, typed: str) -> None:
+        super().__init__(message)
+        self.correction = correction
+        self.typed = typed
+
+
 def played_text(sheet: Sheet, season: Season, fixture: Fixture) -> str:
     """What to say of a match that has a result: first which match of the two clubs is open."""
     still = [one for one in season.open_fixtures(sheet)

@@ -22,7 +22,10 @@ Arsenal ~1-0 Chelsea          a score in play: no result, not counted by an ask
 Arsenal 1-0 Chelsea 67'       a score in play as well, as with HT or half time
 correct Arsenal 2-2 Chelsea   another score for a match that has one
 annul Arsenal - Chelsea       the match counts as not played
-deduct Chelsea 3              three points are deducted in all
+award Arsenal 3-0 Chelsea     a score by ruling; its reason may come after a colon
+postpone Arsenal - Chelsea    no date known; or a new one after the names
+deduct Chelsea 3              three points off; after others `3 more` or `9 in all`
+undo deduct Chelsea           take this ruling back
 undo                          take the last line back; after a refused line only say which
 ask                           what has changed since the last ask
 rows                          every row of the last answer

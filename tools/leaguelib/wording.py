@@ -7,7 +7,7 @@ import textwrap
 import unicodedata
 
 from .records import lines_of
-from .sheet_dates import dates_in_feed
+from .sheet_dates import dates_in_feed, moved, moves_in
 from .texts import Fixture, Season, Sheet
 
 WIDTH = 96
@@ -90,8 +90,8 @@ def lots_phrase(sheet: Sheet, lots: list[int], club: str) -> str:
 
 
 def days_of(data: bytes, sheet: Sheet) -> dict[int, str]:
-    """What comments say of the day of each fixture: a date, or a matchday. Those of the sheet go
-    before those of the feed.
+    """What comments say of the day of each fixture: a date, or a matchday. Its new date goes before
+    that of the sheet, and this before that above its result.
     """
     days: dict[int, str] = {}
     by_line = {fixture.line: fixture.number for fixture in sheet.fixtures}
@@ -102,7 +102,7 @@ def days_of(data: bytes, sheet: Sheet) -> dict[int, str]:
             day = found.group().decode("ascii") if found else "" if NO_DAY.match(raw) else day
         elif number in by_line and day:
             days[by_line[number]] = day
-    return {**dates_in_feed(data), **days}
+    return {**dates_in_feed(data), **moved(days, moves_in(data))}
 
 
 def paragraph(text: str, indent: int = 0) -> str:

@@ -4,7 +4,7 @@ from __future__ import annotations
 
 from .cup_words import CUP_RECORD, cup_words, misplaced_words
 from .names import nearest_name, shown
-from .records import Refused
+from .records import MOST_NAME_BYTES, Refused
 from .texts import Sheet
 
 FORMS = {
@@ -25,21 +25,18 @@ FORMS = {
 FEED_FORMS = ("result", "fix", "void", "deduct", "ask")
 SAVED_WORDS = ("this is a line of a saved text: `league save` writes it, and `league resume SHEET "
                "FEED SAVED NEW_FEED` goes on from it")
+NAMED = ("league", "club", "cup", "group")
 ANSWER_WORDS = ("verdict", "place", "fault", "usage", "accepted", "refused", "sample")
 BAD_FIELDS = {
-    ("league", 2): "the league's name (field 2) is 1 to 40 bytes long, without control signs",
     ("league", 3): "the goal limit (field 3) is a whole number from 1 to 20, and 9 fits most "
                    "leagues",
     ("league", 4): "the budget (field 4) is a whole number from 1 to 50,000, and can be left out",
     ("league", 5): "the order (field 5) is `head_first` or `overall_first`",
-    ("club", 2): "the club's name (field 2) is 1 to 40 bytes long, without control signs",
     ("club", 3): "the rank (field 3) is a whole number from 1 to 999, and 1 for all fits most "
                  "leagues",
-    ("cup", 2): "the cup's name (field 2) is 1 to 40 bytes long, without control signs",
     ("cup", 3): "the goal limit (field 3) is a whole number from 1 to 20, and 9 fits most cups",
     ("cup", 4): "the budget (field 4) is a whole number from 1 to 50,000; 2000 is the usual one",
     ("cup", 5): "field 5 is the number of runners-up that qualify",
-    ("group", 2): "the group's name (field 2) is 1 to 40 bytes long, without control signs",
     ("line", 2): "a line (field 2) is a whole number: how many places count, like 4",
 }
 
@@ -55,11 +52,25 @@ def words_for(refused: Refused, fields: list[str], sheet: Sheet | None) -> str:
         return _unknown_record(kind, refused.where, sheet)
     if refused.code == "wrong_width":
         return f"this record has {_count(len(fields))}; it is written {FORMS.get(kind, '')}"
+    if refused.code == "bad_field" and refused.field == 2 and kind in NAMED:
+        return name_words(kind, fields[1])
     if refused.code == "bad_field":
         return BAD_FIELDS.get((kind, refused.field), "a field is not of its kind")
     if refused.code == "unknown_club":
         return _unknown_club(fields, refused.field, sheet)
     return _plain_words(refused.code, fields, sheet)
+
+
+def name_words(kind: str, name: str) -> str:
+    """What is wrong with a name: its length in bytes, if that is it, and what to do."""
+    size = len(name.encode("utf-8", "surrogateescape"))
+    front = f"the {kind}'s name (field 2) is 1 to {MOST_NAME_BYTES} bytes long, without control signs"
+    if size <= MOST_NAME_BYTES:
+        return front
+    lists = ("; a line LONG NAME,SHORT NAME in a file for --aliases lets your lists keep it"
+             if kind == "club" else "")
+    return (f"{front}, and {shown(name)} has {size} bytes ({len(name)} letters; one that is none of "
+            f"a to z takes 2 to 4): shorten it{lists}")
 
 
 def _count(number: int) -> str:

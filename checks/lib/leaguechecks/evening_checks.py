@@ -12,7 +12,7 @@ import subprocess
 import tempfile
 from pathlib import Path
 
-from .counting import Counter, league, said, sound_end
+from .counting import Counter, league, said, sound_end, unmarked
 
 SLOW = Path(__file__).resolve().parent / "slow_program.py"
 SHEET = """league,Cup,2
@@ -58,7 +58,7 @@ class Evening:
 
     def kept(self) -> str:
         """What the log holds."""
-        return self.log.read_text("utf-8")
+        return unmarked(self.log.read_text("utf-8"))
 
 
 def lines_of(run: subprocess.CompletedProcess) -> list[str]:
@@ -117,7 +117,7 @@ def _check_undo(counter: Counter, evening: Evening) -> None:
          "taken back: match 1: Anchor 0-0 Köln noted (it had 2-1)"),
         ("an annulment", "result,1,1,0\nannul Anchor - Köln", "result,1,1,0",
          "taken back: match 1: Anchor 1-0 Köln noted"),
-        ("a deduction", "deduct Köln 2\ndeduct Köln 5", "deduct,Köln,2",
+        ("a deduction", "deduct Köln 2\ndeduct Köln 5 in all", "deduct,Köln,2",
          "taken back: Köln: 2 points deducted in all (before: 5)"),
         ("the first deduction", "deduct Köln 2", "deduct,Köln,0",
          "taken back: Köln: 0 points deducted in all (before: 2)"),

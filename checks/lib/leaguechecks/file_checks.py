@@ -6,11 +6,13 @@ from __future__ import annotations
 
 import csv
 import tempfile
+import time
 from pathlib import Path
 
 from leaguelib.feeds import read_sheet
 
 from .counting import HOME, Counter, called, said, sound_end
+from .mistake import SHEET
 
 LISTS = HOME / "checks" / "lists"
 LEAGUES = {"coast": "E0.csv", "rhein": "D1.csv", "costa": "SP1.csv"}
@@ -28,6 +30,23 @@ def check_files(counter: Counter) -> None:
     with tempfile.TemporaryDirectory() as work:
         for folder, played in LEAGUES.items():
             check_league(counter, LISTS / folder, played, Path(work) / "sheet.csv")
+
+
+def check_bounds(counter: Counter) -> None:
+    """Lists that are far too long, in lines or in one of them, are refused within seconds."""
+    with tempfile.TemporaryDirectory() as work:
+        made, sheet = Path(work) / "made", Path(work) / "sheet.csv"
+        sheet.write_text(SHEET, "utf-8")
+        for name, text, says in (("27 MB", b"Anchor 2-1 Dock..\n" * 1_500_000, "1,500,000 lines"),
+                                 ("a line of 40 MB", b"A" * 40_000_000, "40,000,000 bytes"),
+                                 ("a line of 3 MB", b"A - B " * 500_000, "a line of this list")):
+            made.write_bytes(text)
+            begun = time.process_time()
+            for words in (["sheet", made, *WORDS], ["feed", sheet, made],
+                          ["sheet", sheet, *WORDS, "--aliases", made]):
+                counter.check(f"bounds: {name}, {words[0]}", said(called(*words), 8, says))
+            took = time.process_time() - begun
+            counter.check(f"bounds: {name}, the time", [f"{took:.1f} s"] if took > 3 else [])
 
 
 def check_league(counter: Counter, folder: Path, played: str, sheet: Path) -> None:

@@ -49,7 +49,9 @@ REFUSED_HEADS = (
     ("Date,Hosts,Away,FT\n1.8.2024,A,B,2-1\n", "none of them is for the home side"),
 )
 SCORES = ("2-1", "2:1", "2–1", "2‑1", "2−1", " 2 - 1 ", "2 : 1", "2-1 (1-0)", "2:1 (1:0)", "2–1[a]",
-          "2-1*", "2-1 FT", "2 x 1", "2-1 awd.", "2-1 (awarded)", "2-1 (aet)", "2-1 n.V.")
+          "2-1*", "2-1 FT", "2-1 (forfait)", "2:1 (s.V.)", "2-1 tavolino",
+          "2-1 a tavolino", "2-1 tap. verde", "w.o. 2-1", "W/O 2:1", "forfait 2-1", "2-1 (Wertung)",
+          "2-1[1]", "2 x 1", "2-1 awd.", "2-1 (awarded)", "2-1 (aet)", "2-1 n.V.")
 OPEN = ("", "-", "–", "- : -", "-:-", "v", "vs", "P-P", "postp.", "Postponed", "abd", "?", "n/a",
         "TBD", "verlegt", "aplazado", "20:45", "15:00", "2-1 abandoned", "2-1 67'", "2-1 (HT)", "HT 2-1", "2-1 half time")
 NO_SCORES = (("2", "the goals of one side are missing"), ("100-1", "from 0 to 99"),
@@ -84,6 +86,15 @@ LINES = (
     ("Gull - Tern HT 2-1", "Gull", "Tern", None, ""),
     ("Gull 1-0 Live Oak", "Gull", "Live Oak", (1, 0), ""),
     ("AZ '67 1-0 Gull", "AZ '67", "Gull", (1, 0), ""),
+    ("Gull 3-0* Tern", "Gull", "Tern", (3, 0), ""), ("Gull - Tern 3-0*", "Gull", "Tern", (3, 0), ""),
+    ("Gull 3-0[1] Tern", "Gull", "Tern", (3, 0), ""),
+    ("Gull - Tern 3-0[1]", "Gull", "Tern", (3, 0), ""),
+    ("Gull 0-3 (forfait) Tern", "Gull", "Tern", (0, 3), ""),
+    ("Gull - Tern 0-3 (s.V.)", "Gull", "Tern", (0, 3), ""),
+    ("Gull - Tern 3-0 a tavolino", "Gull", "Tern", (3, 0), ""),
+    ("Gull - Tern 3-0 tap. verde", "Gull", "Tern", (3, 0), ""),
+    ("Gull w.o. 3-0 Tern", "Gull", "Tern", (3, 0), ""),
+    ("Gull - Tern w.o. 3-0", "Gull", "Tern", (3, 0), ""),
 )
 NO_LINES = (("Gull - Tern 100-1", "goals are whole numbers from 0 to 99"),
             ("Gull 2-1 Tern 3-2", "it has more than one score"),
@@ -158,10 +169,10 @@ PASTES = (
 
 
 def faults_of(text: str, home: str, away: str, score: tuple[int, int] | None,
-              date: str = "") -> list[str]:
+              date: str = "", days: str = "") -> list[str]:
     """Nothing if a list has this match first."""
     try:
-        match = read_matches(text.encode("utf-8")).matches[0]
+        match = read_matches(text.encode("utf-8"), days=days).matches[0]
     except (Trouble, IndexError) as trouble:
         return [str(trouble)]
     found = (match.home, match.away, match.score, match.date)
@@ -211,7 +222,21 @@ def check_lists(counter: Counter) -> None:
         counter.check(f"paste {text[:40]!r}", faults_of(text, "Gull", "Tern", (2, 1), "2024-08-15")
                       + last_faults(text))
     check_scores(counter)
+    check_walkovers(counter)
     check_crosses(counter)
+
+
+def check_walkovers(counter: Counter) -> None:
+    """Signs that say who won and no score, in columns and in lines."""
+    for sign, winner in (("X:0", "home"), ("0:X", "away"), ("+:-", "home"), ("-:+", "away"),
+                         ("x:0", "home"), ("-:-", ""), ("x:x", "")):
+        for text in (f"Home,Away,Result\nGull,Tern,{sign}\n", f"Gull - Tern {sign}\n",
+                     f"Gull {sign} Tern\n", "Home,Away,HG,AG\nGull,Tern,{},{}\n".format(
+                         *sign.split(":")), f"Gull\tTern\t{sign}\nTern\tGull\t2:1\n"):
+            match = read_matches(text.encode("utf-8")).matches[0]
+            found = (match.home, match.away, match.score, match.winner)
+            counter.check(f"walkover {text!r}", [] if found == ("Gull", "Tern", None, winner)
+                          else [str(found)])
 
 
 def check_scores(counter: Counter) -> None:
@@ -225,11 +250,16 @@ def check_scores(counter: Counter) -> None:
     for text, says in NO_SCORES:
         counter.check(f"no score {text!r}", refusal_faults(
             f"Home,Away,Result\nGull,Tern,{text}\n", says))
-    for line, order in (("8/15/2024", True), ("8/1/2024", False)):
-        rest = "8/22/2024,Tern,Gull,0,0\n" if order else ""
-        counter.check(f"a date of the month first beside {line}", faults_of(
-            f"Date,Home,Away,HG,AG\n{line},Gull,Tern,2,1\n{rest}", "Gull", "Tern", (2, 1),
-            "2024-08-15" if order else "2024-01-08"))
+    for line, rest, days, date in (
+            ("8/15/2024", "8/22/2024,Tern,Gull,0,0\n", "", "2024-08-15"),
+            ("8/1/2024", "", "day-first", "2024-01-08"), ("8/1/2024", "", "month-first", "2024-08-01"),
+            ("8/1/2024", "8/22/2024,Tern,Gull,0,0\n", "day-first", "2024-08-01"),
+            ("8/8/2024", "", "", "2024-08-08")):
+        counter.check(f"a date of two orders: {line} {days}", faults_of(
+            f"Date,Home,Away,HG,AG\n{line},Gull,Tern,2,1\n{rest}", "Gull", "Tern", (2, 1), date, days))
+    for text in ("Date,Home,Away\n8/1/24,Gull,Tern\n", "8/1/2024 Gull - Tern\n"):
+        counter.check(f"a date of two orders that nothing tells: {text!r}", refusal_faults(
+            text, "Say --days day-first or --days month-first"))
 
 
 def check_crosses(counter: Counter) -> None:

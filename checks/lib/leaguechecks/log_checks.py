@@ -14,7 +14,7 @@ import tempfile
 import time
 from pathlib import Path
 
-from .counting import LEAGUE, Counter
+from .counting import LEAGUE, Counter, unmarked
 from .evening_checks import Evening
 
 PATIENCE = 20.0
@@ -74,9 +74,14 @@ class Running:
 
     def keeps(self, path: Path, wanted: str) -> None:
         """What a file has to hold."""
-        found = path.read_text("utf-8") if path.exists() else "no file"
+        found = unmarked(path.read_text("utf-8")) if path.exists() else "no file"
         if found != wanted:
             self.faults.append(f"{path.name} holds {found!r}, not {wanted!r}")
+
+
+def mark_in(log: Path) -> str:
+    """The three lines with which the log begins, the mark of its sheet."""
+    return "".join(log.read_text("utf-8").splitlines(keepends=True)[:3])
 
 
 def check_log(counter: Counter) -> None:
@@ -101,11 +106,11 @@ def _grows(running: Running, log: Path) -> None:
     running.type("Anchor 2-1 Köln")
     running.hears("match 1: Anchor 2-1 Köln noted")
     running.add("# in play: 3,1,1\nresult,2,0,0\nask\nresult,3,")
-    running.hears("log.csv, line 2: match 3: Dock United 1-1 Anchor in play, no result")
-    running.hears("log.csv, line 3: match 2: Köln 0-0 Dock United noted")
+    running.hears("log.csv, line 5: match 3: Dock United 1-1 Anchor in play, no result")
+    running.hears("log.csv, line 6: match 2: Köln 0-0 Dock United noted")
     running.hears("answer 1, after 2 events, ")
     running.add("2,2\n")
-    running.hears("log.csv, line 5: match 3: Dock United 2-2 Anchor noted")
+    running.hears("log.csv, line 8: match 3: Dock United 2-2 Anchor noted")
     running.type("ask")
     running.hears("answer 2, after 3 events:\n  Anchor, first place: open → in\n")
     running.ends(0)
@@ -115,8 +120,8 @@ def _grows(running: Running, log: Path) -> None:
 def _refused_line(running: Running, log: Path) -> None:
     """A line that futmax would refuse is told with its number, and may be taken out."""
     running.add("result,1,2,1\nresult,1,2,1\n")
-    running.hears("log.csv, line 2, `result,1,2,1`: not taken: Fixture 1 has this result already")
-    log.write_text("result,1,2,1\n", "utf-8")
+    running.hears("log.csv, line 5, `result,1,2,1`: not taken: Fixture 1 has this result already")
+    log.write_text(mark_in(log) + "result,1,2,1\n", "utf-8")
     time.sleep(0.7)
     running.type("Köln 0-0 Dock United")
     running.hears("match 2: Köln 0-0 Dock United noted")
@@ -128,7 +133,7 @@ def _half_line(running: Running, log: Path) -> None:
     """A line that its program does not end is ended after a second, and refused for itself."""
     running.add("result,3,")
     running.type("Anchor 2-1 Köln")
-    running.hears("log.csv, line 1, `result,3,`: not taken: ")
+    running.hears("log.csv, line 4, `result,3,`: not taken: ")
     running.hears("match 1: Anchor 2-1 Köln noted")
     running.ends(2)
     running.keeps(log, "result,3,\nresult,1,2,1\n")
@@ -139,9 +144,9 @@ def _replaced(running: Running, log: Path) -> None:
     running.type("Anchor 2-1 Köln")
     running.hears("noted\n")
     other = log.with_name("other.csv")
-    other.write_text("result,1,2,1\nfix,1,2,2\n", "utf-8")
+    other.write_text(mark_in(log) + "result,1,2,1\nfix,1,2,2\n", "utf-8")
     other.replace(log)
-    running.hears("log.csv, line 2: match 1: Anchor 2-2 Köln noted (it had 2-1)")
+    running.hears("log.csv, line 5: match 1: Anchor 2-2 Köln noted (it had 2-1)")
     running.type("undo")
     running.hears("taken back: match 1: Anchor 2-1 Köln noted (it had 2-2)")
     running.ends(0)
@@ -178,7 +183,7 @@ def _terminal(running: Running) -> None:
     running.type("Anchor 2-1 Köln")
     running.hears("noted\r\n> ")
     running.add("deduct,Anchor,3\n")
-    running.hears("line 2: Anchor: 3 points deducted in all (before: 0)\r\n> ")
+    running.hears("line 5: Anchor: 3 points deducted in all (before: 0)\r\n> ")
     running.type("wrong")
     running.hears("line 2, `wrong`: refused, not sent")
     running.hears("> ")

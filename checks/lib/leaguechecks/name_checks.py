@@ -46,6 +46,20 @@ NOT_MEANT = (
     ("Gooners", "`Gooners` is an alias of `Harbour Town`, and no club is called"),
 )
 ALIASES = "# mine\nSpurs,Tottenham Hotspur\nThe Seagulls;Brighton\nGooners\tHarbour Town\n\n"
+# short names, and the club of a league that each means; nothing where none or several fit
+SHORT_CLUBS = ("Arsenal FC", "Queens Park Rangers", "Tottenham Hotspur FC", "Manchester United FC",
+               "Manchester City FC", "Wolverhampton Wanderers", "West Bromwich Albion", "Paris FC",
+               "Brighton & Hove Albion FC", "Paris Saint-Germain", "Hamburger SV", "FC Barcelona",
+               "FC Basel", "Borussia Dortmund", "L'Étoile d'Évreux", "Dock United")
+SHORT = (("QPR", "Queens Park Rangers"), ("Q.P.R.", "Queens Park Rangers"),
+         ("qpr", "Queens Park Rangers"), ("Spurs", "Tottenham Hotspur FC"),
+         ("Man Utd", "Manchester United FC"), ("MUFC", "Manchester United FC"),
+         ("WBA", "West Bromwich Albion"), ("BHA", "Brighton & Hove Albion FC"),
+         ("PSG", "Paris Saint-Germain"), ("HSV", "Hamburger SV"), ("BVB", "Borussia Dortmund"),
+         ("Barca", "FC Barcelona"), ("Wolves", "Wolverhampton Wanderers"), ("DU", "Dock United"),
+         ("Etoile", "L'Étoile d'Évreux"), ("Letoile", "L'Étoile d'Évreux"),
+         ("Evreux", "L'Étoile d'Évreux"), ("FCB", ""), ("Gers", ""), ("AFC", ""), ("FC", ""),
+         ("United", ""), ("MC", "Manchester City FC"), ("XYZ", ""), ("II", ""), ("Q", ""))
 LINED = SHEET.replace("Cup", "Six").replace("line,1\n", "line,2\n# line 2: Cup\n# line 1\n"
                                             "# below line 2: relegated\n")
 
@@ -64,8 +78,49 @@ def check_names(counter: Counter) -> None:
         counter.check("name 'Wolves'", [] if found == wolves[-1] else [found])
         for typed, says in NOT_MEANT:
             counter.check(f"no name {typed!r}", unknown_faults(typed, aliases, says))
+        check_short_names(counter, Path(work) / "short.csv")
         check_alias_files(counter, file)
         check_commands(counter, Path(work))
+
+
+def check_short_names(counter: Counter, sheet: Path) -> None:
+    """Short names, how `league names` shows them, and that the sheet keeps others."""
+    for typed, club in SHORT:
+        try:
+            found = club_of(typed, SHORT_CLUBS)
+        except UnknownName:
+            found = ""
+        counter.check(f"short name {typed!r}", [] if found == club else [found])
+    text = "league,Cup,9\n" + "".join(f"club,{club},1\n" for club in SHORT_CLUBS) + (
+        f"match,{SHORT_CLUBS[0]},{SHORT_CLUBS[1]}\nline,1\nseason\n")
+    sheet.write_text(text, "utf-8")
+    run = called("names", sheet, "QPR", "man utd", "WW", "Hoops")
+    counter.check("names: what each means", sound_end(run) + said(
+        run, 2, "QPR: Queens Park Rangers (well known)\nman utd: Manchester United FC (a part of it)"
+                "\nWW: Wolverhampton Wanderers (its initials)\nHoops: no club is called `Hoops`"))
+    run = called("names", sheet, "--set", "Hoops=QPR", "--set", "Les Bleus = Étoile")
+    kept = text.replace("club,Queens Park Rangers,1\n", "club,Queens Park Rangers,1\n# name: Hoops = "
+                        "Queens Park Rangers\n").replace("club,L'Étoile d'Évreux,1\n", "club,L'Étoile "
+                        "d'Évreux,1\n# name: Les Bleus = L'Étoile d'Évreux\n")
+    counter.check("names: the sheet keeps them", sound_end(run) + (
+        [] if sheet.read_text("utf-8") == kept else [sheet.read_text("utf-8")]))
+    run = called("feed", sheet, data=b"Arsenal 2-1 Hoops\n")
+    counter.check("names: a feed knows them", sound_end(run) + said(run, 0, "result,1,2,1\n"))
+    counter.check("names: they are shown", said(called("names", sheet), 0, "Queens Park Rangers"
+                                                "        Hoops, qpr\n"))
+    for words, status, says in ((["--set", "hoops=Arsenal"], 2, "`hoops` means `Queens Park Rangers`"),
+                                (["--set", "Arsenal=QPR"], 2, "`Arsenal` means `Arsenal FC`"),
+                                (["--set", "Hoops"], 1, "--set is NAME=CLUB"),
+                                (["--set", "X=Nobody"], 1, "no club is called `Nobody`"),
+                                (["--forget", "X"], 1, "the sheet keeps no name `X`")):
+        counter.check(f"names: {words}", said(called("names", sheet, *words), status, says) + (
+            [] if sheet.read_text("utf-8") == kept else ["the sheet was changed"]))
+    whole = kept + "result,1,2,1\nask\n"
+    counter.check("names: a file with its feed", said(
+        called("names", "-", "Hoops", data=whole.encode("utf-8")), 0, "Hoops: Queens Park Rangers"))
+    called("names", sheet, "--forget", "hoops", "--forget", "les bleus")
+    counter.check("names: forgotten", [] if sheet.read_text("utf-8") == text else
+                  [sheet.read_text("utf-8")])
 
 
 def unknown_faults(typed: str, aliases: dict[str, str], says: str) -> list[str]:

@@ -128,8 +128,8 @@ def _check_counts(counter: Counter, evening: Evening) -> None:
     results, still = "Anchor 2-1 Köln\nKöln 0-0 Dock United\n", "Dock United - Anchor\n"
     cross = "Home\tANC\tKÖL\tDOC\nAnchor\t\t2-1\t\nKöln\t\t\t0-0\nDock United\t\t\t\n"
     for lines, says in (
-        (results[:16] * 2, "skipped: 1 result that is there already (line 2"),
-        (results * 2, "skipped: 2 results that are there already (line 3"),
+        (results[:16] * 2, "1 result added; 1 was there already"),
+        (results * 2, "2 results added; 2 were there already"),
         (results + still, "skipped: 1 match without a score (line 3"),
         (results + still * 2, "skipped: 2 matches without a score (line 3"),
         (results + "Dock United - Anchor postp.\n" * 2, "2 matches without a score (postp.) ("),

@@ -8,7 +8,7 @@ import subprocess
 from .counting import HOME, Counter, league, said, sound_end
 
 PARTS = ("ask", "table", "scores", "check", "explain", "places", "board", "live", "sheet", "feed",
-         "lint")
+         "lint", "names")
 EVERYWHERE = {"--help", "--version"}
 COMPLETION = HOME / "tools" / "completion" / "league"
 MANUAL = HOME / "docs" / "man" / "league.1"
