@@ -30,13 +30,15 @@ futmax has them:
   1    wrong arguments
   2    something in the input must be fixed; the messages say what
   2 *  a line of the sheet is refused
-  3    the input can be used, but something looks wrong, is unsettled or was not checked
+  3    the input can be used, but something looks wrong, is unsettled or was not checked; or the
+       feed is of another sheet, and nothing was done
   3 *  a line of the feed, or of a saved text, is refused; answers before it are good
   4    a file, or standard input, cannot be read
   5    the output cannot be written
   6    the program futmax cannot be run, or it ended with a fault
   6 *  out of memory
   7 *  the report is no proof
+  8    a list is too long
   8 *  a line has more than 1,024 bytes, or the input more than 67,108,864
   70   a fault of league itself
   70 * the program futmax is not there or cannot be run

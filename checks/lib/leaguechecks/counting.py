@@ -73,7 +73,7 @@ def sound_end(run: subprocess.CompletedProcess) -> list[str]:
     faults = []
     if b"Traceback" in run.stderr or b"Traceback" in run.stdout:
         faults.append("a traceback: " + run.stderr.decode("utf-8", "replace")[-400:])
-    if run.returncode not in (0, 1, 2, 3, 4, 5, 6):
+    if run.returncode not in (0, 1, 2, 3, 4, 5, 6, 8):
         faults.append(f"status {run.returncode}")
     if run.returncode != 0 and not run.stderr and not run.stdout:
         faults.append(f"status {run.returncode} without a message")
