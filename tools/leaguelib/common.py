@@ -111,11 +111,11 @@ def program_path(given: str | None = None) -> str:
     if os.environ.get("FUTMAX"):
         return os.environ["FUTMAX"]
     home = Path(__file__).resolve().parents[2]
-    built = home / "crates" / "futmax" / "out" / "futmax"
-    if not built.exists():
-        _take_kept(home / "tools" / "prebuilt")
+    built = str(home / "crates" / "futmax" / "out" / "futmax")
+    if not os.path.exists(built):
+        built = _take_kept(home / "tools" / "prebuilt") or built
     if os.access(built, os.X_OK):
-        return str(built)
+        return built
     for folder in os.environ.get("PATH", "").split(os.pathsep):
         if folder and os.access(os.path.join(folder, "futmax"), os.X_OK):
             return os.path.join(folder, "futmax")
@@ -123,12 +123,13 @@ def program_path(given: str | None = None) -> str:
                   NO_PROGRAM)
 
 
-def _take_kept(script: Path) -> None:
-    """Puts the program that is kept in a clone to where a built one stands, if it fits here."""
+def _take_kept(script: Path) -> str:
+    """Where the program that is kept in a clone can be run; nothing if it does not fit here."""
     if not script.is_file():
-        return
+        return ""
     try:
-        subprocess.run([sys.executable, str(script), "take"], stdin=subprocess.DEVNULL,
-                       stdout=subprocess.DEVNULL, stderr=subprocess.DEVNULL, check=False)
+        done = subprocess.run([sys.executable, str(script), "take"], stdin=subprocess.DEVNULL,
+                              stdout=subprocess.PIPE, check=False)
     except OSError:
-        pass
+        return ""
+    return os.fsdecode(done.stdout.strip())
