@@ -3,6 +3,7 @@
 from __future__ import annotations
 
 import os
+import re
 import subprocess
 import sys
 from pathlib import Path
@@ -58,11 +59,20 @@ class Trouble(Exception):
         self.status = status
 
 
+# control signs but tab and line end, also those behind ASCII, and signs that turn the direction
+STEERING = re.compile(r"[\x00-\x08\x0b-\x1f\x7f-\x9f\u061c\u200e\u200f\u202a-\u202e\u2066-\u2069]")
+
+
+def visible(text: str) -> str:
+    """A text for a terminal: signs that would steer it, or turn the order of others, written out."""
+    return STEERING.sub(lambda found: f"<U+{ord(found.group()):04X}>", text)
+
+
 def say(message: str) -> None:
     """Writes a message to standard error, whatever signs are in it."""
     if sys.stderr is None:
         return
-    data = (message + "\n").encode("utf-8", "backslashreplace")
+    data = (visible(message) + "\n").encode("utf-8", "backslashreplace")
     sys.stderr.flush()
     sys.stderr.buffer.write(data)
     sys.stderr.buffer.flush()
@@ -90,6 +100,8 @@ def read_bytes(path: str) -> bytes:
 
 def write_text(text: str, path: str = "-") -> None:
     """Writes text to a file, or to standard output where the path is `-`."""
+    if path == "-" and sys.stdout is not None and sys.stdout.isatty():
+        text = visible(text)
     data = text.encode("utf-8", "surrogateescape")
     if path == "-":
         if sys.stdout is None:
