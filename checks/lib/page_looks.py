@@ -173,7 +173,8 @@ def checks_are_listed(root):
              if os.path.isfile(it) and not it.endswith((".py", ".md"))} - NO_CHECKS
     text = " ".join("\n".join(lines_of(f"{root}/checks/run")).replace("\\\n", " ").split())
     called = set(re.search(r"for script in ([^;]*);", text).group(1).split())
-    called |= set(re.findall(r'" beside (\w+)', text))
+    called |= set(re.findall(r'" beside (\w+)', text)) | set(
+        re.findall(r'"\$home/checks/(\w+)"', text))
     told = {name for name, is_called in rows.items() if is_called not in ("", "no")}
     return ([f"checks/README.md and checks/ differ in {it}" for it in sorted(there ^ set(rows))]
             + [f"checks/README.md and checks/run differ in {it}" for it in sorted(told ^ called)])

@@ -185,7 +185,9 @@ class ScreenTests(unittest.TestCase):
                               b"Shires\n# line 6: Shield of the Shires\n# line 17: Safe\nseason\n")
         lines = league("ask", "-", self.FILES[1], data=sheet).stdout.decode().splitlines()
         self.assertTrue(all(len(line) <= 100 for line in lines), lines)
-        self.assertTrue(lines[3].startswith("Champion of the Shire (first place). In: "))
+        # behind the heading, whose length is that of the feed's path
+        self.assertTrue(lines[lines.index("") + 1].startswith(
+            "Champion of the Shire (first place). In: "), lines)
 
     def test_points_and_points_to_come(self) -> None:
         text = league("explain", *self.FILES, "--ask", "4").stdout.decode()

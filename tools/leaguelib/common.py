@@ -3,6 +3,7 @@
 from __future__ import annotations
 
 import os
+import re
 import subprocess
 import sys
 from pathlib import Path
@@ -64,11 +65,20 @@ class Trouble(Exception):
         self.status = status
 
 
+# control signs but tab and line end, also those behind ASCII, and signs that turn the direction
+STEERING = re.compile(r"[\x00-\x08\x0b-\x1f\x7f-\x9f\u061c\u200e\u200f\u202a-\u202e\u2066-\u2069]")
+
+
+def visible(text: str) -> str:
+    """A text for a terminal: signs that would steer it, or turn the order of others, written out."""
+    return STEERING.sub(lambda found: f"<U+{ord(found.group()):04X}>", text)
+
+
 def say(message: str) -> None:
     """Writes a message to standard error, whatever signs are in it."""
     if sys.stderr is None:
         return
-    data = (message + "\n").encode("utf-8", "backslashreplace")
+    data = (visible(message) + "\n").encode("utf-8", "backslashreplace")
     sys.stderr.flush()
     sys.stderr.buffer.write(data)
     sys.stderr.buffer.flush()
@@ -111,6 +121,8 @@ def test_list(data: bytes, name: str = "") -> bytes:
 
 def write_text(text: str, path: str = "-") -> None:
     """Writes text to a file, or to standard output where the path is `-`."""
+    if path == "-" and sys.stdout is not None and sys.stdout.isatty():
+        text = visible(text)
     data = text.encode("utf-8", "surrogateescape")
     if path == "-":
         if sys.stdout is None:
@@ -129,11 +141,11 @@ def program_path(given: str | None = None) -> str:
     if os.environ.get("FUTMAX"):
         return os.environ["FUTMAX"]
     home = Path(__file__).resolve().parents[2]
-    built = home / "crates" / "futmax" / "out" / "futmax"
-    if not built.exists():
-        _take_kept(home / "tools" / "prebuilt")
+    built = str(home / "crates" / "futmax" / "out" / "futmax")
+    if not os.path.exists(built):
+        built = _take_kept(home / "tools" / "prebuilt") or built
     if os.access(built, os.X_OK):
-        return str(built)
+        return built
     for folder in os.environ.get("PATH", "").split(os.pathsep):
         if folder and os.access(os.path.join(folder, "futmax"), os.X_OK):
             return os.path.join(folder, "futmax")
@@ -141,12 +153,13 @@ def program_path(given: str | None = None) -> str:
                   NO_PROGRAM)
 
 
-def _take_kept(script: Path) -> None:
-    """Puts the program that is kept in a clone to where a built one stands, if it fits here."""
+def _take_kept(script: Path) -> str:
+    """Where the program that is kept in a clone can be run; nothing if it does not fit here."""
     if not script.is_file():
-        return
+        return ""
     try:
-        subprocess.run([sys.executable, str(script), "take"], stdin=subprocess.DEVNULL,
-                       stdout=subprocess.DEVNULL, stderr=subprocess.DEVNULL, check=False)
+        done = subprocess.run([sys.executable, str(script), "take"], stdin=subprocess.DEVNULL,
+                              stdout=subprocess.PIPE, check=False)
     except OSError:
-        pass
+        return ""
+    return os.fsdecode(done.stdout.strip())

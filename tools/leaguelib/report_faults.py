@@ -4,13 +4,15 @@ file, it belongs to another feed, or it was made without proofs.
 
 from __future__ import annotations
 
+import re
 from typing import Iterator
 
 from .records import Refused, fields_of
 from .wording import counted
 
 FEED_KINDS = ("result", "fix", "void", "deduct")
-MAKE = "`futmax verdicts --proofs` on sheet and feed makes one"
+PROOFS = re.compile(rb"^proofs,*\r?(?:\n|\Z)", re.MULTILINE)
+PROVED = re.compile(rb"^verdict,[^\n]*,(?:clinched|lost),*\r?\n\[", re.MULTILINE)
 
 
 def kind_of(data: bytes) -> str:
@@ -28,12 +30,15 @@ def kind_of(data: bytes) -> str:
 
 def fault_of(data: bytes) -> str:
     """A sentence on the report after the record `proofs`; nothing if none fits."""
-    front, _, report = data.partition(b"\nproofs\n")
+    mark = PROOFS.search(data)
+    front, report = (data[:mark.start()], data[mark.end():]) if mark else (data, b"")
+    mode = "groups" if next(_rows(front), [""])[0] == "cup" else "verdicts"
+    make = f"`futmax {mode} --proofs` on sheet and feed makes one"
     if not report.strip():
-        return f"The report is empty: {MAKE}. "
+        return f"The report is empty: {make}. "
     if kind_of(report) != "report":
         return ("This is no report of proofs, as `league ask` and others write none: "
-                f"{MAKE}. ")
+                f"{make}. ")
     asks = sum(fields == ["ask"] for fields in _rows(front))
     rows = list(_rows(report))
     found = sum(fields[0] == "ask" for fields in rows)
@@ -41,8 +46,8 @@ def fault_of(data: bytes) -> str:
         return (f"{counted(found, 'ask')} in the report, {asks} in the feed: they do not belong "
                 "together. ")
     claims = any(fields[0] == "verdict" and fields[-1] in ("clinched", "lost") for fields in rows)
-    if claims and b'["tree"' not in report:
-        return "The report was made without --proofs: run `futmax verdicts --proofs`. "
+    if claims and not PROVED.search(report):
+        return f"The report was made without --proofs: run `futmax {mode} --proofs`. "
     return ""
 
 

@@ -36,8 +36,39 @@ class Kept(Case):
         self.clone.keep()
         kept = self.clone.root / "dist/futmax-x86_64-linux"
         kept.write_bytes(kept.read_bytes().replace(b"one", b"two"))
-        self.is_refused("another program than dist/MADE_OF says")
-        self.builds("one")
+        self.is_damaged("it has another program than dist/MADE_OF says")
+        kept.unlink()
+        self.is_damaged("its program is missing")
+        kept.write_text("", encoding="utf-8")
+        self.clone.write("dist/MADE_OF", "kit 1\n")
+        self.is_damaged("has not its three lines")
+
+    def is_damaged(self, what):
+        """It is called so, and then the program is built."""
+        for word in ("take", "check"):
+            status, told = self.prebuilt(word)
+            self.assertEqual(status, 1)
+            self.assertIn(what, told)
+            self.assertTrue(told.startswith("prebuilt: dist/ is damaged: "), told)
+        status, rows, beside = self.clone.answer(kit=False)
+        self.assertEqual((status, rows), (70, ""))
+        self.assertIn("dist/ is damaged", beside)
+
+    def test_a_clone_that_nobody_may_write_runs_the_kept_program_in_its_place(self):
+        self.clone.keep()
+        # a file where the folder is due, since who runs this may write into any folder
+        self.clone.write("crates/futmax/out", "")
+        self.answers("one", kit=False)
+        self.answers("one", kit=False)
+        kept = self.clone.root / "dist/futmax-x86_64-linux"
+        self.assertEqual(self.prebuilt("take"), (0, str(kept)))
+
+    def test_words_that_the_program_does_not_know_are_answered_without_it(self):
+        self.clone.write("VERSION", "1.2\n")
+        self.assertEqual(self.clone.answer("--version", kit=False), (0, "futmax 1.2\n", ""))
+        status, said, beside = self.clone.answer("--help", kit=False)
+        self.assertEqual((status, beside), (0, ""))
+        self.assertIn("usage: futmax MODE [--workers N] [--proofs] [--seed N] < INPUT", said)
 
     def test_an_altered_source_specification_or_proof_is_noticed(self):
         for name in ("low/src/lib.rt", "low/specs/Lib.antt", "low/proofs/Lib.antt",
@@ -55,7 +86,7 @@ class Kept(Case):
         self.clone.write("crates/low/proofs/More.antt", "one")
         self.is_refused("of other sources")
         (self.clone.root / "crates/low/proofs/More.antt").unlink()
-        self.assertEqual(self.prebuilt("take"), (0, ""))
+        self.assertEqual(self.prebuilt("take"), (0, str(self.clone.program())))
         lost.unlink()
         self.is_refused("of other sources")
         lost.write_text("one", encoding="utf-8")
@@ -131,16 +162,14 @@ class Compared(Case):
         self.assertEqual(self.prebuilt("make")[0], 0)
         self.assertEqual(self.prebuilt("check")[0], 0)
 
-    def test_under_another_kit_there_is_a_remark(self):
+    def test_under_another_kit_nothing_was_compared_and_the_check_is_red(self):
         self.clone.keep()
         self.clone.gate()
         self.clone.program().write_bytes(self.clone.program().read_bytes() + b"\n")
         self.clone.write("kit/line", "kit 2\n")
         status, said = self.prebuilt("check")
-        self.assertEqual(status, 0)
-        self.assertTrue(said.startswith("remark: dist/ was built by kit 1, and here is kit 2"))
-        self.clone.write("crates/low/src/lib.rt", "two")
-        self.assertEqual(self.prebuilt("check")[0], 1)
+        self.assertEqual(status, 1)
+        self.assertIn("nothing was compared: dist/ was built by kit 1, and here is kit 2", said)
 
     def test_no_program_no_lines_and_older_ones_are_refused(self):
         self.assertIn("no program", self.prebuilt("check")[1])
@@ -149,6 +178,6 @@ class Compared(Case):
         self.assertIn("no program stands", self.prebuilt("check")[1])
         self.clone.gate()
         self.clone.write("dist/MADE_OF", "kit kit 1\nprogram 0\n")
-        self.is_refused("not its three lines")
+        self.assertIn("not its three lines", self.prebuilt("check")[1])
         self.clone.write("crates/low/src/lib.rt", "two")
         self.assertIn("is newer than the program", self.prebuilt("make")[1])
