@@ -70,6 +70,7 @@ complete -c league -n '__fish_seen_subcommand_from board' -l program -r -d 'the 
 complete -c league -n '__fish_seen_subcommand_from board' -l ask -r -d 'look at the Nth ask of the feed, from 1'
 complete -c league -n '__fish_seen_subcommand_from board' -s o -l output -r -d 'file for the page'
 complete -c league -n '__fish_seen_subcommand_from board' -l tonight -d 'also say what each match of the next day can decide by itself'
+complete -c league -n '__fish_seen_subcommand_from board' -l language -x -a 'de en es fr it pt' -d 'the language of the page'
 complete -c league -n '__fish_seen_subcommand_from board' -l budget -r -d 'the budget in place of that of the sheet, 1 to 50,000'
 complete -c league -n '__fish_seen_subcommand_from board' -l progress -d 'report progress on standard error even if that is no terminal'
 complete -c league -n '__fish_seen_subcommand_from tonight' -s h -l help -d 'show this help message and exit'
