@@ -35,6 +35,7 @@ from .progress import Progress, add_progress_argument
 from .proved import own_report
 from .reasons import Points, Reason, short_reason
 from .running import report_of
+from .season_days import Day, days_of_season
 from .stopped import league_in
 from .texts import Season, Sheet
 from .view import table_at
@@ -73,6 +74,7 @@ class Board:
     note: str = ""
     budget: int = 0
     phrases: Phrases = field(default_factory=Phrases)
+    matchdays: list[Day] = field(default_factory=list)
 
     def last_text(self) -> str:
         """The day of the last match played, where dates are known; how many are not, if some."""
@@ -95,6 +97,9 @@ def add_arguments(parser: argparse.ArgumentParser) -> None:
                         help="file for the page; otherwise standard output")
     parser.add_argument("--tonight", action="store_true",
                         help="also say what each match of the next day can decide by itself")
+    parser.add_argument("--charts", action="store_true",
+                        help="also draw the season: the places still possible by matchday, and "
+                             "when each line was decided; of twenty clubs half a minute")
     parser.add_argument("--language", choices=languages(), default=USUAL,
                         help="the language of the page; otherwise English")
     add_budget_argument(parser)
@@ -114,6 +119,10 @@ def run(arguments: argparse.Namespace) -> int:
         common.say("league: --tonight is for leagues, and left out")
     elif arguments.tonight and board.lines:
         _add_outlook(board, path, input_before(given.data, league, position), arguments.progress)
+    if arguments.charts and board.sheet.is_cup:
+        common.say("league: --charts is for leagues, and left out")
+    elif arguments.charts:
+        board.matchdays = days_of_season(path, given, league, position, arguments.progress)
     common.write_text(page_text(board), arguments.output)
     return common.DONE
 

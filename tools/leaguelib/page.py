@@ -12,6 +12,7 @@ from html import escape
 from pathlib import Path
 from typing import TYPE_CHECKING
 
+from .charts import chart_titles, line_panels, on_page, place_panels
 from .marks import capital, name_of, safe
 from .page_evening import evening
 from .page_news import news, open_matches
@@ -50,7 +51,7 @@ def body(board: Board) -> list[str]:
     return [f"<h1>{name_of(board.sheet.name)}</h1>", *_state(board),
             '<div class="top">', '<div class="tables">', *tables(board), *_limit(board), "</div>",
             '<div class="beside">', *_legend(board), *still_open(board), "</div>", *news(board),
-            "</div>", *evening(board), *open_matches(board), *reasons(board)]
+            "</div>", *evening(board), *open_matches(board), *_charts(board), *reasons(board)]
 
 
 def _hash(text: str) -> str:
@@ -81,6 +82,20 @@ def _limit(board: Board) -> list[str]:
     key = "limit" if board.season.open_fixtures(board.sheet) else "limit.ended"
     text = board.phrases.text(key, goals=board.sheet.goal_limit)
     return [f'<p class="limit quiet">{text}</p>']
+
+
+def _charts(board: Board) -> list[str]:
+    """The pictures of the season, where they are wanted."""
+    if not board.matchdays:
+        return []
+    say, parts = board.phrases, []
+    titles = chart_titles(say, board.names, board.lines, len(board.table))
+    for key, panels in (("places", place_panels(say, board.matchdays, board.table)),
+                        ("lines", line_panels(say, board.matchdays, board.table, titles))):
+        parts += [f'<section class="{key}-chart">', f"<h2>{say.text(f'chart.{key}')}</h2>",
+                  f'<p class="quiet">{say.text(f"chart.{key}.told")}</p>', '<div class="charts">',
+                  *on_page(panels), "</div>", "</section>"]
+    return parts
 
 
 def _legend(board: Board) -> list[str]:
