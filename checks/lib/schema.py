@@ -6,7 +6,7 @@ A word that is not known here is an error, so that no part of a schema goes by u
 from __future__ import annotations
 
 KINDS = {"object": dict, "array": list, "string": str, "integer": int, "null": type(None)}
-SAID = ("$schema", "$defs", "title", "description")
+SAID = ("$schema", "$id", "$defs", "title", "description")
 
 
 def faults_of(value: object, schema: dict, root: dict, where: str = "$") -> list[str]:

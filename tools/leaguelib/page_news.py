@@ -83,7 +83,7 @@ def _by_day(board: Board, fixtures: list[Fixture]) -> list[str]:
     """Matches under their days, in columns."""
     parts = ['<div class="columns">']
     for day, group in groupby(fixtures, key=lambda it: board.days.get(it.number, "")):
-        parts += [f"<h3>{board.phrases.date(day)}</h3>"] if day else []
+        parts += [f"<h3>{capital(board.phrases.date(day))}</h3>"] if day else []
         parts += ["<ul>", *[f"<li>{match_of(it)}</li>" for it in group], "</ul>"]
     return [*parts, "</div>"]
 

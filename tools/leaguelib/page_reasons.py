@@ -59,7 +59,7 @@ def _reason(board: Board, verdict: Verdict) -> list[str]:
     needs = need_texts(board, *mark)
     told = [f"<p>{board.phrases.text('reason.open', club=name_of(verdict.club))}</p>"]
     if needs:
-        return [*told, f"<p>{'; '.join(needs)}.</p>"]
+        return [*told, f"<p>{capital('; '.join(needs))}.</p>"]
     if len(board.season.open_fixtures(board.sheet)) > MOST_TOLD:
         return told
     return [part for claim, key in (("inside", "reaches"), ("outside", "misses"))

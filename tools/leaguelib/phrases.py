@@ -10,6 +10,7 @@ from .marks import name_of, safe
 
 HERE = Path(__file__).resolve().parent
 USUAL = "en"
+ROUND = re.compile(r"(?:matchday|round|gameweek) (\d+)", re.IGNORECASE)
 ISO = re.compile(r"(\d{4})-(\d{2})-(\d{2})")
 
 
@@ -40,6 +41,9 @@ class Phrases:
 
     def date(self, day: str) -> str:
         """A day as people of this language write it; another text as it is."""
+        round_number = ROUND.fullmatch(day)
+        if round_number:
+            return f"{self.text('chart.day')} {round_number.group(1)}"
         found = ISO.fullmatch(day)
         months = self.sentences["months"].split(", ")
         if not found or not 1 <= int(found.group(2)) <= 12:
