@@ -107,6 +107,21 @@ class TonightTests(Case):
                          [("draw", "Köln", "possible"), ("away", "Köln", "possible")])
         self.assertEqual((objects[-1]["rows"], objects[-1]["unsettled"]), (9, 0))
 
+    def test_objects_have_names_of_lines_and_the_last_day(self) -> None:
+        """Places too: Anchor has three points and two clubs below it that can pass it."""
+        data = CUP.replace("line,1", "# line 1: Meister\nline,1").replace(
+            "match,Anchor", "# 2026-05-02\nmatch,Anchor")
+        for words, kind, members in (
+                (["tonight", "--json"], "given", {"name": "Meister"}),
+                (["places", "--json"], "reach", {"club": "Anchor", "best": 1, "worst": 3})):
+            lines = self.league(*words, data=data + "ask\n").stdout.decode().splitlines()
+            objects = [json.loads(line) for line in lines]
+            for value in objects:
+                self.assertEqual(faults_of(value, SCHEMA, SCHEMA), [])
+            self.assertEqual(objects[0]["date"], "2026-05-02")
+            self.assertEqual(objects[1]["type"], kind)
+            self.assertEqual({**objects[1], **members}, objects[1])
+
     def test_what_is_refused(self) -> None:
         for words, status, says in (
                 (("--matches", "1"), 1, "match 1 has a result already"),

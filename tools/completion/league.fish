@@ -63,6 +63,7 @@ complete -c league -n '__fish_seen_subcommand_from places' -l version -d 'print 
 complete -c league -n '__fish_seen_subcommand_from places' -l program -r -d 'the program futmax, if it is not found by itself'
 complete -c league -n '__fish_seen_subcommand_from places' -l ask -r -d 'look at the Nth ask of the feed, from 1'
 complete -c league -n '__fish_seen_subcommand_from places' -l csv -d 'rows `reach,BEST,WORST,CLUB` instead of a table for people'
+complete -c league -n '__fish_seen_subcommand_from places' -l json -d 'one JSON object a line'
 complete -c league -n '__fish_seen_subcommand_from places' -l chart -r -d 'also draw the best and worst place of each club by matchday, as SVG'
 complete -c league -n '__fish_seen_subcommand_from places' -l decided -r -d 'also draw when each line of the sheet was decided, as SVG'
 complete -c league -n '__fish_seen_subcommand_from places' -l language -x -a 'de en es fr it pt' -d 'the language of the pictures'

@@ -17,6 +17,7 @@ from .feeds import Input
 from .given import Given, add_file_arguments, gather
 from .line_names import asked_lines, names_in
 from .marks import safe
+from .objects import comments_in, line_of, reach_objects
 from .phrases import USUAL, Phrases, languages
 from .progress import add_progress_argument
 from .reach import Reach, reach_of
@@ -35,8 +36,11 @@ def add_arguments(parser: argparse.ArgumentParser) -> None:
     add_file_arguments(parser)
     parser.add_argument("--ask", type=int, metavar="N",
                         help="look at the Nth ask of the feed, from 1; otherwise at the last")
-    parser.add_argument("--csv", action="store_true",
-                        help="rows `reach,BEST,WORST,CLUB` instead of a table for people")
+    forms = parser.add_mutually_exclusive_group()
+    forms.add_argument("--csv", action="store_true",
+                       help="rows `reach,BEST,WORST,CLUB` instead of a table for people")
+    forms.add_argument("--json", action="store_true",
+                       help="one JSON object a line; docs/answer.schema.json says which")
     parser.add_argument("--chart", metavar="FILE",
                         help="also draw the best and worst place of each club by matchday, as SVG")
     parser.add_argument("--decided", metavar="FILE",
@@ -55,6 +59,10 @@ def run(arguments: argparse.Namespace) -> int:
     found = reach_of(path, given, league, position, arguments.progress)
     if arguments.csv:
         text = "".join(row_text("reach", entry.best, entry.worst, entry.club) for entry in found)
+    elif arguments.json:
+        text = "".join(map(line_of, reach_objects(
+            league.sheet, league.season_at(position), position, found,
+            comments_in(given.data, league.sheet))))
     else:
         text = places_text(league.sheet, league.season_at(position), found)
     common.write_text(text)
