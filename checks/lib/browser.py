@@ -91,9 +91,9 @@ class Browser:
             self.call("Input.dispatchKeyEvent", type=kind, key=key, code=key,
                       windowsVirtualKeyCode=code, **text)
 
-    def picture(self, path: Path) -> None:
-        """Writes a picture of the whole page."""
-        answer = self.call("Page.captureScreenshot", captureBeyondViewport=True)
+    def picture(self, path: Path, is_whole: bool = True) -> None:
+        """Writes a picture of the whole page, or of what the window shows of it."""
+        answer = self.call("Page.captureScreenshot", captureBeyondViewport=is_whole)
         path.write_bytes(base64.b64decode(answer["data"]))
 
     def printed(self) -> bytes:

@@ -5,8 +5,9 @@ A word that is not known here is an error, so that no part of a schema goes by u
 
 from __future__ import annotations
 
-KINDS = {"object": dict, "array": list, "string": str, "integer": int, "null": type(None)}
-SAID = ("$schema", "$defs", "title", "description")
+KINDS = {"object": dict, "array": list, "string": str, "integer": int, "boolean": bool,
+         "null": type(None)}
+SAID = ("$schema", "$id", "$defs", "title", "description")
 
 
 def faults_of(value: object, schema: dict, root: dict, where: str = "$") -> list[str]:
@@ -26,7 +27,7 @@ def _ref(value, wanted, _schema, root, where):
 
 
 def _type(value, wanted, _schema, _root, where):
-    fits = isinstance(value, KINDS[wanted]) and not isinstance(value, bool)
+    fits = isinstance(value, KINDS[wanted]) and isinstance(value, bool) == (wanted == "boolean")
     return [] if fits else [f"{where}: {value!r} is no {wanted}"]
 
 

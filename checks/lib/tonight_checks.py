@@ -72,6 +72,18 @@ class TonightTests(Case):
             "If Anchor wins")[1].split("If")[0])
         self.assertIn("Cup (top 2) Anchor: in if it wins or draws.", text)
 
+    def test_relegation_is_told_as_people_say_it(self) -> None:
+        """If Dock United wins, Köln ends with no point and below two clubs of three."""
+        data = CUP.replace("line,1\n", "line,2\n# below line 2: relegated\n") + "ask\n"
+        text = self.told("tonight", data=data)
+        self.assertIn("If Dock United wins: Anchor and Dock United are safe; Köln is relegated.",
+                      text)
+
+    def test_a_name_stands_beside_first_place(self) -> None:
+        text = self.told("tonight", data=CUP.replace("line,1", "# line 1: Meister\nline,1")
+                         + "ask\n")
+        self.assertIn("Köln can no longer reach first place (Meister).", text)
+
     def test_what_is_decided_already_is_not_told(self) -> None:
         data = CUP + "result,3,0,1\n"
         self.assertIn("No result of Köln – Dock United decides anything by itself. Every line is "
@@ -94,6 +106,21 @@ class TonightTests(Case):
                           if it["verdict"] != it["now"]],
                          [("draw", "Köln", "possible"), ("away", "Köln", "possible")])
         self.assertEqual((objects[-1]["rows"], objects[-1]["unsettled"]), (9, 0))
+
+    def test_objects_have_names_of_lines_and_the_last_day(self) -> None:
+        """Places too: Anchor has three points and two clubs below it that can pass it."""
+        data = CUP.replace("line,1", "# line 1: Meister\nline,1").replace(
+            "match,Anchor", "# 2026-05-02\nmatch,Anchor")
+        for words, kind, members in (
+                (["tonight", "--json"], "given", {"name": "Meister"}),
+                (["places", "--json"], "reach", {"club": "Anchor", "best": 1, "worst": 3})):
+            lines = self.league(*words, data=data + "ask\n").stdout.decode().splitlines()
+            objects = [json.loads(line) for line in lines]
+            for value in objects:
+                self.assertEqual(faults_of(value, SCHEMA, SCHEMA), [])
+            self.assertEqual(objects[0]["date"], "2026-05-02")
+            self.assertEqual(objects[1]["type"], kind)
+            self.assertEqual({**objects[1], **members}, objects[1])
 
     def test_what_is_refused(self) -> None:
         for words, status, says in (

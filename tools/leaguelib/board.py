@@ -1,8 +1,9 @@
-"""Writes an answer as one page for the browser: the table, a mark a line and club, what is new.
+"""Writes an answer as one page for the browser: the table with its zones and a letter where
+something is decided, what is open and what it takes, what changed.
 
-The page is self-contained: it loads nothing, it is whole without its script, and it prints on one
-or two sheets of paper. It says what changed since the ask before. With --tonight it also says what
-the next matches can decide: futmax is asked about every score of each of them.
+The page is self-contained: it loads nothing, has no script, and a league prints on one sheet. It
+says what changed since the ask before, or, where there is none, since the last day of play. With
+--tonight it also says what one result of the next matches decides.
 """
 
 from __future__ import annotations
@@ -11,35 +12,35 @@ import argparse
 import os
 import time
 from dataclasses import dataclass, field
+from datetime import date
 from typing import Tuple
 
 from . import common
-from .answers import Place, Verdict
+from .answers import Place, Score, Verdict
 from .asking import (ASK, Asked, ask_mode, budget_note, input_before, position_of, run_mode,
                      with_budget)
 from .changes import Change, changes_between, words_of
 from .cup_why import CupWhy, own_proofs
-from .enough import score_words
 from .feeds import Input
 from .front import add_budget_argument
 from .given import Given, add_file_arguments, gather, test_output
 from .line_names import LineNames, asked_lines, names_in
 from .lines import line_runs, with_lines_of
 from .modes import DECIDE
-from .news import plain
+from .news import later_lines
 from .outlook import ISO_DATE, Outlook, next_matches, outlook
 from .page import page_text
+from .phrases import USUAL, Phrases, languages
 from .progress import Progress, add_progress_argument
 from .proved import own_report
-from .reasons import Points, short_reason
+from .reasons import Points, Reason, short_reason
 from .running import report_of
+from .season_days import Day, days_of_season
 from .stopped import league_in
 from .texts import Season, Sheet
 from .view import table_at
 from .wording import days_of
 
-MONTHS = ("January", "February", "March", "April", "May", "June", "July", "August", "September",
-          "October", "November", "December")
 # with so many matches open at most, the page tells how many points are enough
 FEW_OPEN = 20
 
@@ -50,8 +51,9 @@ Mark = Tuple[int, str]
 class Board:
     """What a page shows of one ask; `changes` is none if no ask stands before it.
 
-    `reasons` are short ones in words, `proved` the verdicts whose proofs were accepted, `enough`
-    tells of open places how many points are enough; of a cup `told` has all reasons.
+    `reasons` are short ones, `proved` the verdicts whose proofs were accepted, `scores` say of open
+    places how many points are enough; of a cup `told` has all reasons. `since` is the day from
+    which changes count, where it is known.
     """
 
     sheet: Sheet
@@ -61,21 +63,18 @@ class Board:
     names: LineNames = field(default_factory=LineNames)
     verdicts: dict[Mark, Verdict] = field(default_factory=dict)
     changes: list[Change] | None = None
-    events_since: int = 0
+    since: str = ""
     outlook: list[Outlook] | None = None
-    reasons: dict[Mark, str] = field(default_factory=dict)
+    reasons: dict[Mark, Reason] = field(default_factory=dict)
     proved: dict[Mark, Verdict] = field(default_factory=dict)
-    enough: dict[Mark, str] = field(default_factory=dict)
+    scores: dict[Mark, Score] = field(default_factory=dict)
     days: dict[int, str] = field(default_factory=dict)
     told: dict[Mark, list[str]] = field(default_factory=dict)
     made: str = ""
     note: str = ""
     budget: int = 0
-
-    def change_of(self, verdict: Verdict) -> Change | None:
-        """The change of this word since the ask before, if there is one."""
-        return next((change for change in self.changes or []
-                     if (change.places, change.club) == (verdict.places, verdict.club)), None)
+    phrases: Phrases = field(default_factory=Phrases)
+    matchdays: list[Day] = field(default_factory=list)
 
     def last_text(self) -> str:
         """The day of the last match played, where dates are known; how many are not, if some."""
@@ -84,8 +83,9 @@ class Board:
         unknown = len(days) - len(known)
         if not known:
             return ""
-        return (f", the last on {max(known)}" if not unknown else
-                f", {unknown} of them on days that are not known")
+        if unknown:
+            return self.phrases.text("state.unknown", count=unknown)
+        return self.phrases.text("state.last", date=self.phrases.date(max(known)))
 
 
 def add_arguments(parser: argparse.ArgumentParser) -> None:
@@ -97,6 +97,11 @@ def add_arguments(parser: argparse.ArgumentParser) -> None:
                         help="file for the page; otherwise standard output")
     parser.add_argument("--tonight", action="store_true",
                         help="also say what each match of the next day can decide by itself")
+    parser.add_argument("--charts", action="store_true",
+                        help="also draw the season: the places still possible by matchday, and "
+                             "when each line was decided; of twenty clubs half a minute")
+    parser.add_argument("--language", choices=languages(), default=USUAL,
+                        help="the language of the page; otherwise English")
     add_budget_argument(parser)
     add_progress_argument(parser)
 
@@ -109,22 +114,28 @@ def run(arguments: argparse.Namespace) -> int:
     position = position_of(league, arguments.ask)
     path = common.program_path(arguments.program)
     with Progress("board", 0, arguments.progress):
-        board = board_of(path, given, league, position, arguments.budget)
+        board = board_of(path, given, league, position, arguments.budget,
+                         Phrases(arguments.language))
     if arguments.tonight and board.sheet.is_cup:
         common.say("league: --tonight is for leagues, and left out")
     elif arguments.tonight and board.lines:
         _add_outlook(board, path, input_before(given.data, league, position), arguments.progress)
+    if arguments.charts and board.sheet.is_cup:
+        common.say("league: --charts is for leagues, and left out")
+    elif arguments.charts:
+        board.matchdays = days_of_season(path, given, league, position, arguments.progress)
     common.write_text(page_text(board), arguments.output)
     return common.DONE
 
 
 def board_of(path: str, given: Given, league: Input, position: int,
-             budget: int | None = None) -> Board:
+             budget: int | None = None, phrases: Phrases | None = None) -> Board:
     """Asks the program for what the page shows: the ask and the one before it in one run."""
     season = league.season_at(position)
     table = table_at(path, given, league, position)
     board = Board(league.sheet, season, table, asked_lines(given.data, league.sheet),
-                  names_in(given.data), days=days_of(given.data, league.sheet), made=_today())
+                  names_in(given.data), days=days_of(given.data, league.sheet), made=_today(),
+                  phrases=phrases or Phrases())
     if not board.lines:
         return board
     outcome = ask_mode(path, DECIDE, given, list(range(max(0, position - 1), position + 1)), budget)
@@ -138,7 +149,10 @@ def board_of(path: str, given: Given, league: Input, position: int,
         before = outcome.asked[0]
         board.changes = changes_between(words_of(before.answer.verdicts),
                                         words_of(now.answer.verdicts))
-        board.events_since = season.events - before.season.events
+        played = [board.days.get(number, "") for number in before.season.scores]
+        board.since = max(played) if played and all(map(ISO_DATE.match, played)) else ""
+    else:
+        _add_last_day(board, path, given, league, now)
     front = input_before(given.data, league, position) + ASK
     if league.sheet.is_cup:
         _add_told(board, path, given.data, league, now)
@@ -146,6 +160,22 @@ def board_of(path: str, given: Given, league: Input, position: int,
     _add_reasons(board, path, front, league, now)
     _add_scores(board, path, front)
     return board
+
+
+def _add_last_day(board: Board, path: str, given: Given, league: Input, now: Asked) -> None:
+    """Adds what changed on the last day of play, where all days are known."""
+    days = [board.days.get(number, "") for number in board.season.scores]
+    earlier = sorted(set(days))[:-1]
+    if not earlier or not all(map(ISO_DATE.match, days)):
+        return
+    later = later_lines(league, board.days, date.fromisoformat(max(days)), now.line)
+    lines = [b"" if number in later else raw
+             for number, raw in enumerate(given.data.split(b"\n"), 1)]
+    before = Given(given.whole, b"\n".join(lines), given.paths, given.has_own_ask)
+    outcome = ask_mode(path, DECIDE, before, [now.position])
+    board.changes = changes_between(words_of(outcome.asked[0].answer.verdicts),
+                                    words_of(now.answer.verdicts))
+    board.since = earlier[-1]
 
 
 def _test_names(board: Board) -> None:
@@ -176,7 +206,7 @@ def _add_reasons(board: Board, path: str, front: bytes, league: Input, now: Aske
         reason = short_reason(points, board.table, verdict.club, verdict.places,
                               verdict.word == "clinched")
         if reason is not None:
-            board.reasons[mark] = reason.text
+            board.reasons[mark] = reason
         else:
             missing.add(verdict.places)
     for lines in line_runs(sorted(missing)) if missing else []:
@@ -192,7 +222,6 @@ def _add_scores(board: Board, path: str, front: bytes) -> None:
     still = {mark for mark, it in board.verdicts.items() if it.word == "possible"}
     if not still or len(board.season.open_fixtures(board.sheet)) > FEW_OPEN:
         return
-    points = Points(board.sheet, board.season)
     for lines in line_runs(sorted({places for places, _ in still})):
         try:
             told = report_of(run_mode(path, "scores", with_lines_of(front, lines)))
@@ -201,8 +230,7 @@ def _add_scores(board: Board, path: str, front: bytes) -> None:
             return
         for score in told.answers[-1].scores if told.answers else []:
             if (score.places, score.club) in still:
-                words = score_words(score, points.now[score.club], points.left[score.club])
-                board.enough[score.places, score.club] = plain(words)
+                board.scores[score.places, score.club] = score
 
 
 def _add_outlook(board: Board, path: str, front: bytes, is_wanted: bool) -> None:
@@ -220,4 +248,4 @@ def _today() -> str:
     """The day on which the page is made; SOURCE_DATE_EPOCH may set another one."""
     seconds = os.environ.get("SOURCE_DATE_EPOCH", "")
     day = time.gmtime(int(seconds)) if seconds.isdigit() else time.localtime()
-    return f"{day.tm_mday} {MONTHS[day.tm_mon - 1]} {day.tm_year}"
+    return time.strftime("%Y-%m-%d", day)

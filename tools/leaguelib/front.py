@@ -11,7 +11,7 @@ from .asking import (Asked, Outcome, ask_mode, budget_note, futmax_statuses, lea
                      position_of)
 from .given import Given, add_file_arguments, gather
 from .modes import DECIDE
-from .objects import line_of, objects_of
+from .objects import comments_in, line_of, objects_of
 from .progress import Progress, add_progress_argument
 from .records import row_text
 from .texts import MOST_BUDGET, Sheet
@@ -100,8 +100,9 @@ def for_programs(given: Given, outcome: Outcome, arguments: argparse.Namespace) 
     if arguments.rows:
         return "".join(rows_of(ask.answer) for ask in outcome.asked)
     sheet = outcome.league.sheet if outcome.league else None
+    comments = comments_in(given.data, sheet) if sheet else None
     objects = [line_of(value) for ask in outcome.asked if sheet
-               for value in objects_of(sheet, ask, getattr(arguments, "examples", False))]
+               for value in objects_of(sheet, ask, getattr(arguments, "examples", False), comments)]
     if outcome.stop is not None:
         objects.append(line_of(outcome.stop.object_for(given)))
     return "".join(objects)

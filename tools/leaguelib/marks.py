@@ -1,4 +1,4 @@
-"""What the parts of a board's page share: safe text, names, and the signs of the marks."""
+"""What the parts of a board's page share: safe text, names, and where things stand."""
 
 from __future__ import annotations
 
@@ -11,14 +11,6 @@ from .texts import Fixture
 if TYPE_CHECKING:
     from .board import Board
 
-SIGNS = {"clinched": "✓", "lost": "✗", "possible": "&nbsp;", "unsettled": "?"}
-MEANINGS = {
-    "clinched": "sure of it {limit}",
-    "lost": "sure to miss it {limit}",
-    "possible": "can still reach it and can still miss it",
-    "unsettled": "not found out within the budget; says nothing for or against the club",
-}
-EMPTY_CELL = '<td class="mark"><span class="hidden-words">no answer</span></td>'
 LONG_WORD = 16
 
 
@@ -36,9 +28,10 @@ def name_of(text: str) -> str:
     return f'<bdi{" class=" + chr(34) + "long" + chr(34) if is_long else ""}>{safe(text)}</bdi>'
 
 
-def names_of(parts: list[str]) -> str:
-    """Names in a row, which are safe already."""
-    return parts[0] if len(parts) == 1 else ", ".join(parts[:-1]) + " and " + parts[-1]
+def capital(text: str) -> str:
+    """HTML with a capital letter in front, also where an element begins it."""
+    at = text.index(">") + 1 if text.startswith("<bdi") else 0
+    return text[:at] + text[at:at + 1].upper() + text[at + 1:]
 
 
 def match_of(fixture: Fixture) -> str:
@@ -46,11 +39,9 @@ def match_of(fixture: Fixture) -> str:
     return f"{name_of(fixture.home)} – {name_of(fixture.away)}"
 
 
-def table_of(board: Board, verdict: Verdict) -> str:
-    """Where the table stands in which a mark is: of a cup that of the club's group."""
-    sheet = board.sheet
-    return f"table-{sheet.groups.index(sheet.group_of(verdict.club)) + 1}" if sheet.is_cup else (
-        "table")
+def club_anchor(board: Board, club: str) -> str:
+    """Where the reasons of a club stand."""
+    return f"why-club-{board.sheet.club_named(club).number}"
 
 
 def anchor(board: Board, verdict: Verdict) -> str:

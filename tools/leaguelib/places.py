@@ -3,40 +3,32 @@
 The program is run on the sheet with other `line` records, four lines a run, until each place is
 asked for. A best place is the first line that is not lost, a worst one the first that is clinched.
 Files are a sheet and one feed or several; the end of a feed without an `ask` counts as one.
+--chart and --decided draw the season up to the ask, a matchday after the other, as SVG.
 """
 
 from __future__ import annotations
 
 import argparse
-from concurrent.futures import ThreadPoolExecutor
-from dataclasses import dataclass
 
 from . import common
-from .answers import Answer
-from .asking import again_budget, position_of, run_mode, with_asks, with_budget
+from .asking import position_of
+from .charts import chart_titles, in_file, line_panels, place_panels
 from .feeds import Input
 from .given import Given, add_file_arguments, gather
-from .lines import line_runs, with_lines_of
-from .modes import DECIDE
-from .progress import Progress, add_progress_argument
+from .line_names import asked_lines, names_in
+from .marks import safe
+from .objects import comments_in, line_of, reach_objects
+from .phrases import USUAL, Phrases, languages
+from .progress import add_progress_argument
+from .reach import Reach, reach_of
 from .records import row_text
-from .running import report_of
+from .season_days import days_of_season
 from .stopped import league_in
 from .texts import Season, Sheet
+from .view import table_at
 from .wording import counted, limit_phrase, paragraph, shown
 
-RUNS_AT_ONCE = 4
-
-
-@dataclass(frozen=True)
-class Reach:
-    """The places of a club; where a budget was spent, the ends are not sure."""
-
-    club: str
-    best: int
-    worst: int
-    is_best_sure: bool = True
-    is_worst_sure: bool = True
+PLACE_COLUMNS = 4
 
 
 def add_arguments(parser: argparse.ArgumentParser) -> None:
@@ -44,8 +36,17 @@ def add_arguments(parser: argparse.ArgumentParser) -> None:
     add_file_arguments(parser)
     parser.add_argument("--ask", type=int, metavar="N",
                         help="look at the Nth ask of the feed, from 1; otherwise at the last")
-    parser.add_argument("--csv", action="store_true",
-                        help="rows `reach,BEST,WORST,CLUB` instead of a table for people")
+    forms = parser.add_mutually_exclusive_group()
+    forms.add_argument("--csv", action="store_true",
+                       help="rows `reach,BEST,WORST,CLUB` instead of a table for people")
+    forms.add_argument("--json", action="store_true",
+                       help="one JSON object a line; docs/answer.schema.json says which")
+    parser.add_argument("--chart", metavar="FILE",
+                        help="also draw the best and worst place of each club by matchday, as SVG")
+    parser.add_argument("--decided", metavar="FILE",
+                        help="also draw when each line of the sheet was decided, as SVG")
+    parser.add_argument("--language", choices=languages(), default=USUAL,
+                        help="the language of the pictures; otherwise English")
     add_progress_argument(parser)
 
 
@@ -58,50 +59,40 @@ def run(arguments: argparse.Namespace) -> int:
     found = reach_of(path, given, league, position, arguments.progress)
     if arguments.csv:
         text = "".join(row_text("reach", entry.best, entry.worst, entry.club) for entry in found)
+    elif arguments.json:
+        text = "".join(map(line_of, reach_objects(
+            league.sheet, league.season_at(position), position, found,
+            comments_in(given.data, league.sheet))))
     else:
         text = places_text(league.sheet, league.season_at(position), found)
     common.write_text(text)
+    if arguments.chart or arguments.decided:
+        _draw(arguments, path, given, league, position)
     is_sure = all(entry.is_best_sure and entry.is_worst_sure for entry in found)
     return common.DONE if is_sure else common.DOUBTFUL
 
 
-def reach_of(path: str, given: Given, league: Input, position: int,
-             shows_progress: bool = False) -> list[Reach]:
-    """The best and worst place of each club, in the order of the sheet."""
-    data = with_asks(given.data, league, [position])
-    budget = again_budget(path, DECIDE, len(league.season_at(position).open_fixtures(league.sheet)))
-    runs = line_runs(list(range(1, len(league.sheet.clubs))))
-    with Progress("places", len(runs), shows_progress) as progress:
-
-        def answer_to(lines: list[int]) -> Answer:
-            asked = with_lines_of(data, lines)
-            answer = report_of(run_mode(path, DECIDE, asked)).answers[-1]
-            is_unsettled = any(it.word == "unsettled" for it in answer.verdicts)
-            if is_unsettled and budget > league.sheet.budget:
-                again = run_mode(path, DECIDE, with_budget(asked, budget))
-                answer = report_of(again).answers[-1]
-            progress.step()
-            return answer
-
-        with ThreadPoolExecutor(RUNS_AT_ONCE) as pool:
-            answers = list(pool.map(answer_to, runs))
-    return [_reach(league.sheet, club.name, answers) for club in league.sheet.clubs]
-
-
-def _reach(sheet: Sheet, club: str, answers: list[Answer]) -> Reach:
-    """The places of a club by its words on every line."""
-    words = {verdict.places: verdict.word for answer in answers for verdict in answer.verdicts
-             if verdict.club == club}
-    size = len(sheet.clubs)
-    if set(words) != set(range(1, size)):
-        raise common.Trouble("futmax answered other rows than were asked for: it may be of "
-                             "another version. Build it again.", common.NO_PROGRAM)
-    best = next((place for place in range(1, size) if words[place] != "lost"), size)
-    worst = next((place for place in range(1, size) if words[place] == "clinched"), size)
-    unsettled = [place for place in range(1, size) if words[place] == "unsettled"]
-    is_best_sure = best == size or words[best] != "unsettled"
-    is_worst_sure = worst == 1 or words[worst - 1] != "unsettled"
-    return Reach(club, best, worst, is_best_sure or not unsettled, is_worst_sure)
+def _draw(arguments: argparse.Namespace, path: str, given: Given, league: Input,
+          position: int) -> None:
+    """Writes the pictures that are wanted."""
+    days = days_of_season(path, given, league, position, arguments.progress)
+    if not days:
+        raise common.Trouble("no match is played before this ask, so there is no matchday to draw.",
+                             common.BAD_WORDS)
+    say, table = Phrases(arguments.language), table_at(path, given, league, position)
+    name = safe(league.sheet.name)
+    if arguments.chart:
+        panels = place_panels(say, days, table)
+        title = f"{name}: {say.text('chart.places')}"
+        common.write_text(in_file(title, say.text("chart.places.told"), panels, PLACE_COLUMNS),
+                          arguments.chart)
+    if arguments.decided:
+        lines = asked_lines(given.data, league.sheet)
+        titles = chart_titles(say, names_in(given.data), lines, len(table))
+        panels = line_panels(say, days, table, titles)
+        title = f"{name}: {say.text('chart.lines')}"
+        common.write_text(in_file(title, say.text("chart.lines.told"), panels, 2),
+                          arguments.decided)
 
 
 def places_text(sheet: Sheet, season: Season, found: list[Reach]) -> str:

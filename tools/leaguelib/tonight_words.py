@@ -9,7 +9,7 @@ from dataclasses import dataclass
 from .answers import OUTCOMES
 from .asking import Asked
 from .changes import Change, Words
-from .line_names import LineNames
+from .line_names import RELEGATED, LineNames
 from .outlook import Given, Outlook, decided
 from .news import plain
 from .screen import MOST_LISTED, state_text
@@ -115,11 +115,21 @@ def _decided_text(evening: Evening, one: Outlook) -> str:
         clubs = [shown(club) for club in evening.order
                  if (places, club, word) in {(it.places, it.club, it.now) for it in changes}]
         names = listed(clubs) if len(clubs) <= MOST_LISTED else f"{len(clubs)} clubs"
-        place, below = evening.names.place(places), evening.names.outside(places)
-        out = f"can no longer reach {place}" + (f" ({below})" if below else "")
-        sure = f"{'is' if len(clubs) == 1 else 'are'} sure of {place}"
-        texts.append(f"{names} {sure if word == 'clinched' else out}")
+        texts.append(f"{names} {_fate_text(evening.names, places, word, len(clubs))}")
     return "; ".join(texts)
+
+
+def _fate_text(names: LineNames, places: int, word: str, count: int) -> str:
+    """What is decided of so many clubs, as people say it: relegated, safe, or sure of a place."""
+    verb, below = "is" if count == 1 else "are", names.outside(places)
+    if below == RELEGATED and (word == "lost" or places not in names.inside):
+        return f"{verb} {'safe' if word == 'clinched' else below}"
+    place = names.place(places)
+    if places == 1 and places in names.inside:
+        place = f"first place ({names.inside[places]})"
+    if word == "clinched":
+        return f"{verb} sure of {place}"
+    return f"can no longer reach {place}" + (f" ({below})" if below else "")
 
 
 def _is_implied(change: Change, changes: tuple[Change, ...]) -> bool:

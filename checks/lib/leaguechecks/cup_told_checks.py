@@ -129,8 +129,8 @@ def check_told(counter: Counter) -> None:
                  "other runners-up, behind it is Köln of Group One (3 points and goal difference "
                  "+1). Whether it can miss is not known: the budget was spent on whether Elbe can "
                  "end third or lower in Group Two."),
-                ("board", ["board", late], "The runners-up as it stands, of 2 groups; the best of "
-                 "them qualifies."),
+                ("board", ["board", late], "The winner of each group and the best runner-up "
+                 "qualify."),
                 ("a board's reasons", ["board", early], "Dock United ends third or lower in Group "
                  "One, however the open matches end."),
                 ("objects", ["ask", late, "--json"],
