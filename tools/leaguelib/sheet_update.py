@@ -33,8 +33,9 @@ def run_update(arguments: argparse.Namespace) -> int:
     """Brings a sheet up to date, and says what changed in it."""
     _test_words(arguments)
     data = common.read_bytes(arguments.update)
-    sheet = Bookkeeper(data, sheet_name=file_name(arguments.update)).sheet
-    found = read_lists(arguments.lists, read_aliases(arguments.aliases))
+    book = Bookkeeper(data, sheet_name=file_name(arguments.update))
+    sheet, days = book.sheet, arguments.days or book.settings.days
+    found = read_lists(arguments.lists, read_aliases(arguments.aliases), days)
     before = dates_of(data, sheet)
     dates, added = _placed(sheet, before, _named(found.matches, sheet, arguments.aliases))
     _test_added(sheet, added, arguments.as_is)

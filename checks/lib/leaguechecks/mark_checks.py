@@ -61,6 +61,7 @@ def check_marks(counter: Counter) -> None:
         for is_marked in (True, False):
             _check_overwriting(counter, Season(folder, is_marked), wanted, is_marked)
         _check_updating(counter, Season(folder), wanted)
+        _check_days(counter, folder)
         _check_rewriting(counter, Season(folder), wanted)
 
 
@@ -133,6 +134,17 @@ def _check_updating(counter: Counter, season: Season, wanted: list[str]) -> None
     run = league("sheet", season.list, "--update", season.sheet, "--as-is")
     counter.check("update: nothing new", said(run, 0, "nothing is new") + (
         [] if season.sheet.read_text("utf-8") == text else ["it was changed"]))
+
+
+def _check_days(counter: Counter, folder: str) -> None:
+    """An update reads 05/04 as the sheet was made: as the fourth of May."""
+    dates, sheet = Path(folder) / "dates.txt", Path(folder) / "dates.csv"
+    dates.write_text("03/04/2025\nA - B\n04/04/2025\nB - A\n", "utf-8")
+    league("sheet", dates, *WORDS, "--days", "month-first", "-o", sheet)
+    dates.write_text("05/04/2025\nA - B\n04/04/2025\nB - A\n", "utf-8")
+    run = league("sheet", dates, "--update", sheet)
+    counter.check("update: days as before", said(run, 0, "A - B, is on 2025-05-04 now (it was on "
+                                                          "2025-03-04)"))
 
 
 def _check_rewriting(counter: Counter, season: Season, wanted: list[str]) -> None:
