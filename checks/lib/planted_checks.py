@@ -13,7 +13,7 @@ from resume_checks import SHEET, TEXT, KeepingCase
 
 HOME = Path(__file__).resolve().parents[2]
 sys.path.append(str(HOME / "tools"))
-from leaguelib import common, places  # noqa: E402
+from leaguelib import common, reach  # noqa: E402
 from leaguelib.changes import Change  # noqa: E402
 from leaguelib.enough import needed_text  # noqa: E402
 from leaguelib.feeds import read_input  # noqa: E402
@@ -40,7 +40,7 @@ class Small(unittest.TestCase):
     def test_a_best_place_that_is_not_settled(self) -> None:
         rows = [SimpleNamespace(places=line, club="A", word=word)
                 for line, word in ((1, "unsettled"), (2, "clinched"))]
-        found = places._reach(SimpleNamespace(clubs="ABC"), "A", [SimpleNamespace(verdicts=rows)])
+        found = reach._reach(SimpleNamespace(clubs="ABC"), "A", [SimpleNamespace(verdicts=rows)])
         self.assertEqual((found.best, found.is_best_sure, found.worst), (1, False, 2))
 
     def test_a_change_to_or_from_unsettled_is_of_the_search(self) -> None:
